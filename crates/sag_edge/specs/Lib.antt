@@ -1,0 +1,4 @@
+pub mod Causes
+pub mod Contents
+pub mod Reading
+pub mod Writing

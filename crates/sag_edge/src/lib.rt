@@ -1,0 +1,18 @@
+// Files that are read and streams that are written, by what a caller can know of them.
+#![tactic(auto)]
+
+mod machine;
+mod memory;
+mod names;
+mod reading;
+mod sure;
+#[cfg(test)]
+mod tests;
+mod writing;
+
+pub use machine::{RealFiles, StdSink};
+pub use memory::{MemFiles, MemSink};
+pub use names::{FileBytes, FileName};
+pub use reading::{Failed, Files, ReadAnswer, read_all};
+pub use sure::{SureFiles, SureSink};
+pub use writing::{Sink, write_whole};
