@@ -1,0 +1,5 @@
+pub mod Exact
+mod FieldLemmas
+mod LineLemmas
+mod ReadBack
+mod RowLemmas

@@ -1,0 +1,82 @@
+// One field: the blanks at its ends, its digits and its value.
+
+ghost use Rattle.std.specs.Prelude.{◌≡◌, ◌≤◌, ◌<◌, ◌^◌, ◌↔◌, IsTrue, MatchResult, MatchOption, reverse};
+ghost use Rattle.csv_numbers.specs.Fields.{IsNumber, IsTooBig, Spells, bare, is_blank, value_of, without_blanks};
+ghost use Rattle.csv_numbers.specs.RowFaults.{IsFaultOf};
+
+// Why a text is no number.
+#[derive(Clone, Copy, Debug)]
+pub(crate) enum NumberFault {
+    NotNumber,
+    TooBig,
+}
+
+// A space or a tab.
+fn is_blank_byte(byte: u8) -> bool
+    ensures { result ≡ is_blank byte }
+{
+    byte == b' ' || byte == b'\t'
+}
+
+// The text without the blanks at its start.
+fn trimmed_front(text: &[u8]) -> &[u8]
+    ensures { result.now ≡ without_blanks text.now }
+{
+    let mut text = text;
+    'front: while let [first, rest @ ..] = text {
+        if !is_blank_byte(*first) {
+            break;
+        }
+        text = rest;
+    }
+    text
+}
+
+// The text without the blanks at its end.
+fn trimmed_back(text: &[u8]) -> &[u8]
+    ensures { result.now ≡ reverse (without_blanks (reverse text.now)) }
+{
+    let mut text = text;
+    'back: while let [rest @ .., last] = text {
+        if !is_blank_byte(*last) {
+            break;
+        }
+        text = rest;
+    }
+    text
+}
+
+// Whether the text is one or more digits.
+fn is_number(text: &[u8]) -> bool
+    ensures { IsTrue result ↔ IsNumber text.now }
+{
+    !text.is_empty() && text.iter().all(|b| b.is_ascii_digit())
+}
+
+// The value of digits, where 64 bits hold it.
+fn value(digits: &[u8]) -> Option<u64>
+    requires { IsNumber digits.now }
+    ensures { MatchOption result (2 ^ 64 ≤ value_of digits.now) (λ n. (value_of digits.now ≡ n)) }
+{
+    let mut value = 0u64;
+    for digit in digits {
+        value = value
+            .checked_mul(10)?
+            .checked_add(u64::from(*digit - b'0'))?;
+    }
+    Some(value)
+}
+
+// The number that a field spells.
+pub(crate) fn read_number(field: &[u8]) -> Result<u64, NumberFault>
+    ensures { MatchResult result (Spells (bare field.now)) (IsFaultOf (bare field.now)) }
+{
+    let text = trimmed_back(trimmed_front(field));
+    if !is_number(text) {
+        return Err(NumberFault::NotNumber);
+    }
+    match value(text) {
+        Some(number) => Ok(number),
+        None => Err(NumberFault::TooBig),
+    }
+}

@@ -1,0 +1,15 @@
+//! Tables of numbers as CSV, both ways.
+#![tactic(auto)]
+
+mod fault;
+mod field;
+mod laws;
+mod rows;
+mod table;
+#[cfg(test)]
+mod tests;
+
+pub use fault::CsvFault;
+pub use laws::{rows_agree, rows_keep_rules};
+pub use rows::{NumberRow, read_numbers};
+pub use table::write_table;

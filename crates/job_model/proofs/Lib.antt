@@ -1,0 +1,4 @@
+pub mod TableLemmas
+pub mod Tables
+pub mod UrgencyLaws
+mod WorkedUrgency

@@ -1,0 +1,5 @@
+pub mod Numbers
+pub mod Urgency
+pub mod Table
+pub mod TableFaults
+pub mod Scenario

@@ -1,0 +1,145 @@
+// Job tables.
+
+ghost use Rattle.std.specs.Prelude.{◌≡◌, ◌≢◌, ◌<◌, ◌≤◌, Contains, IfErr, IfNone, IfOk, IfSome, List, OnOk, length, map};
+ghost use Rattle.job_model.specs.Table.{IsJob, IsTable, has_urgency_over, id_of, job_at, table_of};
+ghost use Rattle.job_model.specs.TableFaults.{FirstTableFault, ReachedRow};
+ghost use Rattle.job_model.specs.TableFaults.{first_above as above};
+
+use crate::{Job, JobNo, MOST_ARRIVAL, MOST_COST, MOST_JOBS, TableFault};
+use indexmap::IndexSet;
+use std::alloc::Global;
+use std::marker::Model;
+
+/// Jobs by their numbers, with distinct IDs and costs and releases within the limits.
+#[derive(Drop)]
+pub struct JobTable {
+    jobs: Vec<Job>,
+    // (task, job) of each job, so that the place in the set is the number of the job
+    ids: IndexSet<(u64, u64)>,
+}
+
+impl Model for JobTable {
+    ghost use Rattle.std.specs.Prelude.{◌≡◌, map};
+    ghost use Rattle.job_model.specs.Table.{IsTable, Table, id_of, table_of};
+
+    ghost Value = { Table };
+
+    ghost view = { λ t. table_of t.jobs.items };
+
+    ghost invariant = { λ t. IsTable (table_of t.jobs.items) × (t.ids.keys ≡ map id_of t.jobs.items) };
+}
+
+// A column with its number and the greatest number that may stand there.
+type Column = (u8, u64, u64);
+
+// The leftmost column in which more stands than may.
+fn first_above(columns: &[Column]) -> Option<u8>
+    ensures { result ≡ above columns.now }
+{
+    let (column, _, _) = columns.iter().find(|(_, number, most)| number > most)?;
+    Some(*column)
+}
+
+// Whether the row by itself keeps the rules.
+fn check_row(row: u32, job: &Job) -> Result<(), TableFault>
+    ensures job { OnOk result (IsJob job.now) }
+    ensures fault { IfErr result (λ e. (rows : List Job) (r : ReachedRow rows row)
+        → r.here ≡ job.now → FirstTableFault rows e) }
+{
+    let limited = [
+        (3, job.rmin, MOST_ARRIVAL),
+        (4, job.rmax, MOST_ARRIVAL),
+        (5, job.cmin, MOST_COST),
+        (6, job.cmax, MOST_COST),
+    ];
+    if let Some(column) = first_above(&limited) {
+        return Err(TableFault::OverLimit(row, column));
+    }
+    let spans = [(3, job.rmin, job.rmax), (5, job.cmin, job.cmax)];
+    if let Some(column) = first_above(&spans) {
+        return Err(TableFault::SpanReversed(row, column));
+    }
+    if job.cmin == 0 {
+        return Err(TableFault::ZeroCost(row));
+    }
+    Ok(())
+}
+
+// The (task, job) of each row, in their order, where the rows keep all rules.
+fn index_rows(alloc: Global, rows: &[Job]) -> Result<IndexSet<(u64, u64)>, TableFault>
+    requires { length rows.now ≤ MOST_JOBS }
+    ensures ids { IfOk result (λ ids. ids.keys ≡ map id_of rows.now) }
+    ensures table { OnOk result (IsTable (table_of rows.now)) }
+    ensures fault { IfErr result (FirstTableFault rows.now) }
+{
+    let Ok(mut ids) = IndexSet::with_capacity(alloc, rows.len()) else {
+        return Err(TableFault::Memory);
+    };
+    for (i, job) in rows.iter().enumerate() {
+        let row = i as u32 + 1;
+        check_row(row, job)?;
+        let Ok((place, is_new)) = ids.insert_full((job.task, job.job)) else {
+            return Err(TableFault::Memory);
+        };
+        if !is_new {
+            return Err(TableFault::Twice(row, place as u32 + 1));
+        }
+    }
+    Ok(ids)
+}
+
+impl JobTable {
+    /// The table of these rows, without precedence edges. Rows and columns are counted from 1.
+    pub fn from_rows(alloc: Global, rows: Vec<Job>) -> Result<JobTable, TableFault>
+        ensures rows { IfOk result (λ t. t ≡ table_of rows.items) }
+        ensures table { OnOk result (IsTable (table_of rows.items)) }
+        ensures fault { IfErr result (FirstTableFault rows.items) }
+        ensures refused { IfErr result (λ fault. fault ≢ TableFault.Memory
+            → ¬ IsTable (table_of rows.items)) }
+    {
+        if rows.len() > usize::from(MOST_JOBS) {
+            return Err(TableFault::TooMany);
+        }
+        let ids = index_rows(alloc, &rows)?;
+        Ok(JobTable { jobs: rows, ids })
+    }
+
+    /// The number of jobs.
+    pub fn len(&self) -> u16
+        ensures count { result ≡ length self.now.jobs }
+        ensures table { IsTable self.now }
+    {
+        self.jobs.len() as u16
+    }
+
+    /// The job of that number.
+    pub fn job(&self, no: JobNo) -> &Job
+        requires { no < length self.now.jobs }
+        ensures job { result.now ≡ job_at self.now no }
+        ensures table { IsTable self.now }
+    {
+        &self.jobs[no.0 as usize]
+    }
+
+    /// The number of the job of these IDs.
+    pub fn find(&self, task: u64, job: u64) -> Option<JobNo>
+        ensures found { IfSome result (λ no. (no < length self.now.jobs)
+            × (id_of (job_at self.now no) ≡ (task, job))) }
+        ensures none { IfNone result (¬ Contains (map id_of self.now.jobs) (task, job)) }
+        ensures table { IsTable self.now }
+    {
+        let place = self.ids.get_index_of(&(task, job))?;
+        Some(JobNo(place as u16))
+    }
+
+    /// Whether job `a` is more urgent than job `b`: the smaller of their (priority, task, job).
+    pub fn urgent(&self, a: JobNo, b: JobNo) -> bool
+        requires first { a < length self.now.jobs }
+        requires second { b < length self.now.jobs }
+        ensures { result ≡ has_urgency_over self.now a b }
+    {
+        let a = self.job(a);
+        let b = self.job(b);
+        (a.priority, a.task, a.job) < (b.priority, b.task, b.job)
+    }
+}

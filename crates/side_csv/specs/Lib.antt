@@ -1,0 +1,4 @@
+pub mod ScenarioText
+pub mod ScenarioRows
+pub mod ScenarioFaults
+pub mod Places
