@@ -1,0 +1,53 @@
+-- Rows that are sorted by start and urgency stand in the order of dispatch.
+use Rattle.std.proofs.Common.{◌≡◌, ℕ, List, length, map, refl, ◌∙◌}
+use Rattle.std.specs.Cmp.{IsTotalOrder, then_total, on_total, nat_cmp_total}
+use Rattle.std.specs.List.Sorted.{IsPermutation, IsSortedBy}
+use Rattle.std.specs.declared.cmp.Ordering.{Ordering}
+use Rattle.std.specs.declared.cmp.Ordering.TheVariants.{Less, Equal, Greater}
+use Rattle.std.specs.Ordering.{is_lt, nat_cmp, ordering_then}
+use Rattle.std.proofs.lemmas.List.Sorted.{IsPermutation-map, IsPermutation-sym, IsPermutation-trans}
+use Rattle.job_model.specs.Numbers.{numbers_below}
+use Rattle.job_model.specs.Table.{Table, IsTable, job_at}
+use Rattle.run_meaning.specs.declared.Place.{Place}
+use Rattle.run_meaning.specs.Ready.{start_of}
+use Rattle.run_meaning.specs.Order.{dispatch_cmp, dispatch_order}
+use Rattle.run_meaning.proofs.OneOrder.{sorted_is}
+use Rattle.run_meaning.proofs.OrderMembers.{IsStrictlySortedBy-map, dispatch_permutation, dispatch_strict}
+use Rattle.replay.specs.declared.schedule.Row.{Row}
+use Rattle.replay.specs.ScheduleRows.{row_at}
+
+-- the order of the keys of two rows
+abbrev pub row_cmp : Row → Row → Ordering
+row_cmp a b = ordering_then (ordering_then (ordering_then (nat_cmp a.start b.start) (nat_cmp a.priority b.priority)) (nat_cmp a.task b.task)) (nat_cmp a.job b.job)
+
+row_total : IsTotalOrder row_cmp
+row_total =
+    then_total (then_total (then_total (on_total (λ (row : Row). row.start) nat_cmp_total) (on_total (λ (row : Row). row.priority) nat_cmp_total))
+    (on_total (λ (row : Row). row.task) nat_cmp_total)) (on_total (λ (row : Row). row.job) nat_cmp_total)
+
+ordering_then-assoc : (a b c : Ordering) → ordering_then a (ordering_then b c) ≡ ordering_then (ordering_then a b) c
+ordering_then-assoc Less b c = refl
+ordering_then-assoc Equal b c = refl
+ordering_then-assoc Greater b c = refl
+
+module _ (table : Table) (scenario : List (ℕ × ℕ)) (schedule : List Place) where
+  -- two rows compare as their jobs do
+  rows_compare : (i j : ℕ) → dispatch_cmp table schedule i j ≡ row_cmp (row_at table scenario schedule i) (row_at table scenario schedule j)
+  rows_compare i j =
+      let start = nat_cmp (start_of schedule i) (start_of schedule j) in
+      let priority = nat_cmp (job_at table i).priority (job_at table j).priority in
+      let task = nat_cmp (job_at table i).task (job_at table j).task in
+      let job = nat_cmp (job_at table i).job (job_at table j).job in
+      ordering_then-assoc start priority (ordering_then task job) ∙ ordering_then-assoc (ordering_then start priority) task job
+
+  -- the rows of all jobs, when they are sorted
+  pub rows_dispatched : IsTable table → (rows sorted : List Row) → rows ≡ map (row_at table scenario schedule) (numbers_below (length table.jobs)) →
+      IsPermutation rows sorted → IsSortedBy (λ a b. is_lt (row_cmp a b)) sorted → sorted ≡ map (row_at table scenario schedule) (dispatch_order table schedule)
+  rows_dispatched is_table rows sorted is moved up =
+      let row = row_at table scenario schedule in
+      let numbers = numbers_below (length table.jobs) in
+      let order = dispatch_order table schedule in
+      sorted_is row_total (map row order) sorted
+      (IsStrictlySortedBy-map row (dispatch_cmp table schedule) row_cmp rows_compare order (dispatch_strict table schedule is_table))
+      (IsPermutation-trans (map row order) (map row numbers) sorted (IsPermutation-sym (map row numbers) (map row order) (IsPermutation-map row numbers order (dispatch_permutation table schedule))) (rw is at moved))
+      up

@@ -1,0 +1,5 @@
+pub mod Cores
+pub mod Queues
+pub mod Standing
+pub mod ScheduleText
+pub mod ScheduleRows

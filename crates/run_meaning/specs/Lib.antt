@@ -1,0 +1,4 @@
+pub mod Ready
+pub mod Order
+pub mod Legal
+pub mod Laws
