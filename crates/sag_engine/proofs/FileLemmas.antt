@@ -1,0 +1,48 @@
+-- The files that a command reads are those that its words name.
+use Rattle.std.proofs.Common.{◌≡◌, ℕ, ◌⊎◌, inl, inr, List, Option, Result, Ok, Err}
+use Rattle.sag_edge.specs.Contents.{Contents}
+use Rattle.job_model.specs.Table.{Table}
+use Rattle.sag_texts.specs.declared.fault.FileKind.{FileKind}
+use Rattle.sag_texts.specs.declared.fault.FileKind.TheVariants as kinds
+use Rattle.sag_texts.specs.declared.fault.Fault.{Fault}
+use Rattle.sag_words.specs.declared.Command.{Command}
+use Rattle.sag_words.specs.declared.Command.TheVariants as commands
+use Rattle.sag_engine.specs.Plan.{Plan, ◌>>=◌, ReadsNext, file_plan, judged}
+use Rattle.sag_engine.specs.Plan.Plan.{Ends, Reads, Judges}
+use Rattle.sag_engine.specs.Inputs.{jobs_plan, scenario_plan}
+use Rattle.sag_engine.specs.Work.{command_plan, files_of, IsAmongFiles}
+use Rattle.sag_engine.specs.Work.Work.{Replays}
+
+-- a plan that goes on reads a file of its first part or of what follows
+pub reads_split : {A B : Type 0} (p : Plan (Result A Fault)) (q : A → Plan (Result B Fault)) (m : Option Contents) (k : FileKind) (n : List ℕ) → ReadsNext (p >>= q) m k n → ReadsNext p m k n ⊎ ((a : A) × ReadsNext (q a) m k n)
+reads_split (Ends (Ok a)) q m k n h = inr (a, h)
+reads_split (Ends (Err f)) q m k n h = absurd h
+reads_split (Reads kind name go) q m k n (inl h) = inl (inl h)
+reads_split (Reads kind name go) q m k n (inr (bytes, t, h)) =
+    elim (reads_split (go bytes) q m k n h) [ inl x ↦ inl (inr (bytes, t, x)) | inr x ↦ inr x ]
+reads_split (Judges X Holds go) q m k n (x, t, h) =
+    elim (reads_split (go x) q m k n h) [ inl y ↦ inl (x, t, y) | inr y ↦ inr y ]
+
+-- a step that reads one file and judges it reads that file alone
+one_file : {A : Type 0} (kind : FileKind) (name : List ℕ) (limit : ℕ) (Holds : List ℕ → Result A Fault → Type 0) (m : Option Contents) (k : FileKind) (n : List ℕ) → ReadsNext (file_plan kind name limit >>= λ bytes. judged (Holds bytes)) m k n → (kind ≡ k) × (name ≡ n)
+one_file kind name limit Holds m k n h = elim (reads_split (file_plan kind name limit) (λ bytes. judged (Holds bytes)) m k n h) [
+  | inl x ↦ elim x [ inl y ↦ y | inr y ↦ absurd y.2 ]
+  | inr x ↦ absurd x.1.2
+]
+
+jobs_reads : (name : List ℕ) (m : Option Contents) (k : FileKind) (n : List ℕ) → ReadsNext (jobs_plan name) m k n → (kinds.Jobs ≡ k) × (name ≡ n)
+unfolding jobs_plan
+jobs_reads name m k n h = one_file _ name _ _ m k n h
+
+scenario_reads : (table : Table) (name : List ℕ) (m : Option Contents) (k : FileKind) (n : List ℕ) → ReadsNext (scenario_plan table name) m k n → (kinds.Scenario ≡ k) × (name ≡ n)
+unfolding scenario_plan
+scenario_reads table name m k n h = one_file _ name _ _ m k n h
+
+pub command_reads : (c : Command) (m : Option Contents) (k : FileKind) (n : List ℕ) → ReadsNext (command_plan c) m k n → IsAmongFiles (files_of c) k n
+command_reads (commands.Replay jobs scenario) m k n h = elim (reads_split (jobs_plan jobs) _ m k n h) [
+  | inl x ↦ inl (jobs_reads jobs m k n x)
+  | inr x ↦ elim (reads_split (scenario_plan x.0 scenario) (λ rows. Ends (Ok (Replays x.0 1 rows))) m k n x.1) [
+    | inl y ↦ inr (inl (scenario_reads x.0 scenario m k n y))
+    | inr y ↦ absurd y.1
+  ]
+]

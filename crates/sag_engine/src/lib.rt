@@ -1,0 +1,15 @@
+//! The program as one call: words, files and two sinks in, a status out.
+#![tactic(auto)]
+
+mod command_replay;
+mod ends;
+mod fetch;
+mod inputs;
+mod outputs;
+mod run;
+mod status;
+#[cfg(test)]
+mod tests;
+
+pub use run::sag_run;
+pub use status::Status;

@@ -1,0 +1,287 @@
+use crate::{Status, sag_run};
+use sag_edge::{FileBytes, FileName, MemFiles, MemSink, SureFiles, SureSink};
+use std::alloc::{AllocError, Global};
+use std::test::Fail;
+
+// Two jobs, of which the less urgent may block.
+const JOBS: &str = "h\n1,1,0,1,1,2,5,1\n2,1,0,0,2,3,9,2\n";
+
+const SCENARIO: &str = "h\n1,1,1,2\n2,1,0,3\n";
+
+const SCHEDULE: &str = "Task ID,Job ID,Start,Finish,Core\n2,1,0,3,0\n1,1,3,5,0\n";
+
+fn words_of(alloc: Global, words: &[&str]) -> Result<Vec<String>, AllocError> {
+    let mut list = Vec::new(alloc);
+    for word in words {
+        list.push(String::from_str(alloc, word)?)?;
+    }
+    Ok(list)
+}
+
+// The job file J and the scenario file S.
+fn files_of(
+    alloc: Global,
+    jobs: &[u8],
+    scenario: &[u8],
+) -> Result<Vec<(FileName, FileBytes)>, AllocError> {
+    let mut files = Vec::new(alloc);
+    for (name, bytes) in [("J", jobs), ("S", scenario)] {
+        let name = FileName::from_text(alloc, name)?;
+        files.push((name, FileBytes::from_vec(Vec::from_slice(alloc, bytes)?)))?;
+    }
+    Ok(files)
+}
+
+// What a run of `sag replay J S` comes to.
+#[derive(Drop)]
+struct Run {
+    status: Status,
+    out: MemSink,
+    err: MemSink,
+}
+
+// Runs `sag replay J S` over files that are read 16 bytes at a time.
+fn replay(alloc: Global, jobs: &[u8], scenario: &[u8]) -> Result<Run, AllocError> {
+    let words = words_of(alloc, &["sag", "replay", "J", "S"])?;
+    let mut files = MemFiles::new(files_of(alloc, jobs, scenario)?, 16, Vec::new(alloc));
+    let mut out = MemSink::new(alloc, 1_048_576, 10, Vec::new(alloc))?;
+    let mut err = MemSink::new(alloc, 1_048_576, 10, Vec::new(alloc))?;
+    let status = sag_run(alloc, &words, &mut files, &mut out, &mut err);
+    Ok(Run { status, out, err })
+}
+
+#[test]
+fn prints_schedules(rt: HostRuntime) -> Result<(), Fail> {
+    let padded = "h\r\n 1 ,\t1,0 , 1,1,2 ,5,1\t\r\n\r\n2,1, 0 ,0,2,3,9,\t2\r\n";
+    let ties = "h\n18446744073709551615,18446744073709551615,0,0,1,1,18446744073709551615,7\n\
+        18446744073709551615,18446744073709551614,0,0,1,1,18446744073709551615,7\n";
+    let tied = "h\n18446744073709551615,18446744073709551615,0,1\n\
+        18446744073709551615,18446744073709551614,0,1\n";
+    let by_ties = "Task ID,Job ID,Start,Finish,Core\n\
+        18446744073709551615,18446744073709551614,0,1,0\n\
+        18446744073709551615,18446744073709551615,1,2,0\n";
+    let late = "h\n1,1,0,281474976710655,1,1,9,1\n";
+    let at_last = "Task ID,Job ID,Start,Finish,Core\n1,1,281474976710655,281474976710656,0\n";
+    for (jobs, scenario, schedule) in [
+        (JOBS, SCENARIO, SCHEDULE),
+        (JOBS, "h\n2,1,0,3\n1,1,1,2\n", SCHEDULE),
+        (padded, SCENARIO, SCHEDULE),
+        (ties, tied, by_ties),
+        (late, "h\n1,1,281474976710655,1\n", at_last),
+        ("h", "h", "Task ID,Job ID,Start,Finish,Core\n"),
+    ] {
+        let run = replay(rt.alloc(), jobs.as_bytes(), scenario.as_bytes())?;
+        assert_eq!(rt; run.status, Status::Ok, "at {jobs}");
+        assert_eq!(rt; run.out.bytes(), schedule.as_bytes(), "at {jobs}");
+        assert_eq!(rt; run.err.bytes(), b"".as_slice(), "at {jobs}");
+    }
+    Ok(())
+}
+
+#[test]
+fn names_the_first_refusal(rt: HostRuntime) -> Result<(), Fail> {
+    for (jobs, scenario, text) in [
+        ("", SCENARIO, "refused jobs no heading\n"),
+        (
+            "h\n1,1,0,1,1,2,5,1\n2,1,0,0,0,3,9,2\n",
+            SCENARIO,
+            "refused jobs row 2 column 5 is 0\n",
+        ),
+        (
+            "h\n1,1,3,2,1,2,5,1\n",
+            SCENARIO,
+            "refused jobs row 1 column 3 is above the next\n",
+        ),
+        (
+            "h\n1,1,0,1,1,2,5,\n",
+            SCENARIO,
+            "refused jobs row 1 column 8 is no number\n",
+        ),
+        (
+            "h\n1,1,0,1,1,2,5\n",
+            SCENARIO,
+            "refused jobs row 1 has 7 fields\n",
+        ),
+        (
+            "h\n1,1,0,1,1,2,18446744073709551616,1\n",
+            SCENARIO,
+            "refused jobs row 1 column 7 is above 18446744073709551615\n",
+        ),
+        (
+            "h\n1,1,0,281474976710656,1,2,5,1\n",
+            SCENARIO,
+            "refused jobs row 1 column 4 is above the limit\n",
+        ),
+        (
+            "h\n1,1,0,1,1,2,5,1\n2,1,0,0,2,3,9,2\n1,1,0,1,1,2,5,1\n",
+            SCENARIO,
+            "refused jobs row 3 repeats row 1\n",
+        ),
+        (
+            "h\n1,1,3,2,1,2,5,1\n1,1,3,2,1,x,5,1\n",
+            "",
+            "refused jobs row 2 column 6 is no number\n",
+        ),
+        (JOBS, "", "refused scenario no heading\n"),
+        (
+            JOBS,
+            "h\n1,1,2,1\n",
+            "refused scenario row 1 column 3 is outside\n",
+        ),
+        (
+            JOBS,
+            "h\n1,1,0,3\n",
+            "refused scenario row 1 column 4 is outside\n",
+        ),
+        (
+            JOBS,
+            "h\n2,1,0,2\n",
+            "refused scenario has no row for job 1 1\n",
+        ),
+        (
+            JOBS,
+            "h\n2,1,0,2\n2,1,0,2\n",
+            "refused scenario row 2 repeats row 1\n",
+        ),
+        (
+            JOBS,
+            "h\n9,1,0,2\n",
+            "refused scenario row 1 column 1 names no job\n",
+        ),
+        (
+            JOBS,
+            "h\n2,1,0,-2\n",
+            "refused scenario row 1 column 4 is no number\n",
+        ),
+    ] {
+        let run = replay(rt.alloc(), jobs.as_bytes(), scenario.as_bytes())?;
+        assert_eq!(rt; run.status, Status::Refused, "at {text}");
+        assert_eq!(rt; run.err.bytes(), text.as_bytes(), "at {text}");
+        assert_eq!(rt; run.out.bytes(), b"".as_slice(), "at {text}");
+    }
+    Ok(())
+}
+
+// Runs `sag replay J S`, where that read of the named file fails: 0 is its beginning.
+fn fail_read(alloc: Global, name: &str, read: u64) -> Result<Run, AllocError> {
+    let words = words_of(alloc, &["sag", "replay", "J", "S"])?;
+    let mut faults = Vec::new(alloc);
+    faults.push((FileName::from_text(alloc, name)?, read))?;
+    let files = files_of(alloc, JOBS.as_bytes(), SCENARIO.as_bytes())?;
+    let mut files = MemFiles::new(files, 16, faults);
+    let mut out = MemSink::new(alloc, 1_048_576, 10, Vec::new(alloc))?;
+    let mut err = MemSink::new(alloc, 1_048_576, 10, Vec::new(alloc))?;
+    let status = sag_run(alloc, &words, &mut files, &mut out, &mut err);
+    Ok(Run { status, out, err })
+}
+
+#[test]
+fn tells_which_file_cannot_be_read(rt: HostRuntime) -> Result<(), Fail> {
+    // 34 bytes of jobs and 18 of a scenario, 16 at a time, and the end: four reads and three
+    for (name, reads, text) in [
+        ("J", 4, "cannot read jobs\n"),
+        ("S", 3, "cannot read scenario\n"),
+    ] {
+        for read in 0..=reads {
+            let run = fail_read(rt.alloc(), name, read)?;
+            assert_eq!(rt; run.status, Status::ReadFault, "at {name} {read}");
+            assert_eq!(rt; run.out.bytes(), b"".as_slice(), "at {name} {read}");
+            assert_eq!(rt; run.err.bytes(), text.as_bytes(), "at {name} {read}");
+        }
+        let run = fail_read(rt.alloc(), name, reads + 1)?;
+        assert_eq!(rt; run.status, Status::Ok, "at {name}");
+    }
+    Ok(())
+}
+
+#[test]
+fn tells_that_a_file_is_not_held(rt: HostRuntime) -> Result<(), Fail> {
+    let alloc = rt.alloc();
+    let words = words_of(alloc, &["sag", "replay", "nowhere", "S"])?;
+    let files = files_of(alloc, JOBS.as_bytes(), SCENARIO.as_bytes())?;
+    let mut files = MemFiles::new(files, 16, Vec::new(alloc));
+    let mut out = MemSink::new(alloc, 100, 10, Vec::new(alloc))?;
+    let mut err = MemSink::new(alloc, 100, 10, Vec::new(alloc))?;
+    let status = sag_run(alloc, &words, &mut files, &mut out, &mut err);
+    assert_eq!(rt; status, Status::ReadFault);
+    assert_eq!(rt; err.bytes(), b"cannot read jobs\n".as_slice());
+    Ok(())
+}
+
+#[test]
+fn writes_a_prefix_before_a_fault(rt: HostRuntime) -> Result<(), Fail> {
+    let alloc = rt.alloc();
+    let words = words_of(alloc, &["sag", "replay", "J", "S"])?;
+    // 53 bytes, 10 at a time, and the end: seven calls
+    for (call, taken) in [(1, 0), (2, 10), (3, 20), (4, 30), (5, 40), (6, 50), (7, 53)] {
+        let files = files_of(alloc, JOBS.as_bytes(), SCENARIO.as_bytes())?;
+        let mut files = MemFiles::new(files, 16, Vec::new(alloc));
+        let mut faults = Vec::new(alloc);
+        faults.push(call)?;
+        let mut out = MemSink::new(alloc, 100, 10, faults)?;
+        let mut err = MemSink::new(alloc, 100, 10, Vec::new(alloc))?;
+        let status = sag_run(alloc, &words, &mut files, &mut out, &mut err);
+        assert_eq!(rt; status, Status::WriteFault, "at {call}");
+        assert_eq!(rt;
+            Some(out.bytes()),
+            SCHEDULE.as_bytes().get(..taken),
+            "at {call}"
+        );
+        assert_eq!(rt; err.bytes(), b"cannot write\n".as_slice(), "at {call}");
+    }
+    Ok(())
+}
+
+#[test]
+fn never_fails_over_sure_files(rt: HostRuntime) -> Result<(), Fail> {
+    let alloc = rt.alloc();
+    let words = words_of(alloc, &["sag", "replay", "J", "S"])?;
+    let mut files = SureFiles::new(files_of(alloc, JOBS.as_bytes(), SCENARIO.as_bytes())?);
+    let mut out = SureSink::new(alloc, 100)?;
+    let mut err = SureSink::new(alloc, 100)?;
+    assert_eq!(rt;
+        sag_run(alloc, &words, &mut files, &mut out, &mut err),
+        Status::Ok
+    );
+    Ok(())
+}
+
+#[test]
+fn tells_the_usage(rt: HostRuntime) -> Result<(), Fail> {
+    let alloc = rt.alloc();
+    for words in [
+        ["sag"].as_slice(),
+        ["sag", "analyze", "J"].as_slice(),
+        ["sag", "replay", "J"].as_slice(),
+        ["sag", "replay", "J", "S", "--help"].as_slice(),
+    ] {
+        let words = words_of(alloc, words)?;
+        let mut files = SureFiles::new(Vec::new(alloc));
+        let mut out = MemSink::new(alloc, 100, 10, Vec::new(alloc))?;
+        let mut err = MemSink::new(alloc, 100, 10, Vec::new(alloc))?;
+        let status = sag_run(alloc, &words, &mut files, &mut out, &mut err);
+        assert_eq!(rt; status, Status::Usage);
+        assert_eq!(rt;
+            err.bytes(),
+            b"usage: sag replay JOBS SCENARIO\n".as_slice()
+        );
+        assert_eq!(rt; out.bytes(), b"".as_slice());
+    }
+    Ok(())
+}
+
+#[test]
+fn numbers_the_statuses(rt: HostRuntime) {
+    for (status, number) in [
+        (Status::Ok, 0),
+        (Status::No, 1),
+        (Status::Usage, 2),
+        (Status::Refused, 3),
+        (Status::Spent, 4),
+        (Status::ReadFault, 5),
+        (Status::WriteFault, 6),
+        (Status::Memory, 7),
+    ] {
+        assert_eq!(rt; status.number(), number);
+    }
+}

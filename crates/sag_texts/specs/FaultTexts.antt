@@ -1,0 +1,103 @@
+-- The texts that go to the error stream.
+--   line            a line of these pieces
+--   file_word       the word for a file
+--   refusal         why a file is refused
+--   row_refusal     why one of its rows is refused
+--   field_refusal   why a field of a row is refused
+--   repeat_refusal  a row is refused, since an earlier one has the same IDs
+--   no_memory       want of memory
+--   csv_text        why a file is no table of numbers
+--   table_text      why the rows of the job file are no job table
+--   side_text       why a file beside the job file is refused
+--   fault_text      the text of a fault
+--   has_text        every fault has a text, but a job without a row, which is told by its IDs
+--   HasText         the same as a fact
+use Rattle.std.specs.Prelude.{ℕ, ◌++◌, Bool, IsTrue, List, [], ◌∷◌, codes, false, true}
+use Rattle.std.specs.Fmt.{decimal}
+use Rattle.std.specs.List.{concat}
+use Rattle.csv_numbers.specs.declared.fault.CsvFault.{CsvFault}
+use Rattle.csv_numbers.specs.declared.fault.CsvFault.TheVariants as csv
+use Rattle.job_model.specs.declared.fault.TableFault.{TableFault}
+use Rattle.job_model.specs.declared.fault.TableFault.TheVariants as table
+use Rattle.side_csv.specs.declared.fault.SideFault.{SideFault}
+use Rattle.side_csv.specs.declared.fault.SideFault.TheVariants as side
+use Rattle.sag_texts.specs.declared.fault.FileKind.{FileKind}
+use Rattle.sag_texts.specs.declared.fault.FileKind.TheVariants.{Jobs, Scenario}
+use Rattle.sag_texts.specs.declared.fault.Fault.{Fault}
+use Rattle.sag_texts.specs.declared.fault.Fault.TheVariants as fault
+
+-- a line of these pieces
+unfoldable pub line : List (List ℕ) → List ℕ
+line pieces = concat pieces ++ 10 ∷ []
+
+-- the word for a file
+abbrev pub file_word : FileKind → List ℕ
+file_word Jobs = codes "jobs"
+file_word Scenario = codes "scenario"
+
+-- why a file is refused
+unfoldable pub refusal : FileKind → List (List ℕ) → List ℕ
+refusal file why = line (codes "refused " ∷ file_word file ∷ why)
+
+-- why one of its rows is refused
+unfoldable pub row_refusal : FileKind → ℕ → List (List ℕ) → List ℕ
+row_refusal file row why = refusal file (codes " row " ∷ decimal row ∷ why)
+
+-- why a field of a row is refused
+unfoldable pub field_refusal : FileKind → ℕ → ℕ → List ℕ → List ℕ
+field_refusal file row column why = row_refusal file row (codes " column " ∷ decimal column ∷ why ∷ [])
+
+-- a row is refused, since an earlier one has the same IDs
+unfoldable pub repeat_refusal : FileKind → ℕ → ℕ → List ℕ
+repeat_refusal file row earlier = row_refusal file row (codes " repeats row " ∷ decimal earlier ∷ [])
+
+-- want of memory
+unfoldable pub no_memory : List ℕ
+no_memory = line (codes "no memory" ∷ [])
+
+-- why a file is no table of numbers
+unfoldable pub csv_text : FileKind → CsvFault → List ℕ
+csv_text file csv.NoHeading = refusal file (codes " no heading" ∷ [])
+csv_text file (csv.Width row fields) = row_refusal file row (codes " has " ∷ decimal fields ∷ codes " fields" ∷ [])
+csv_text file (csv.NotNumber row column) = field_refusal file row column (codes " is no number")
+csv_text file (csv.TooBig row column) = field_refusal file row column (codes " is above 18446744073709551615")
+csv_text file csv.Memory = no_memory
+
+-- why the rows of the job file are no job table
+unfoldable pub table_text : TableFault → List ℕ
+table_text table.TooMany = refusal Jobs (codes " too many rows" ∷ [])
+table_text (table.OverLimit row column) = field_refusal Jobs row column (codes " is above the limit")
+table_text (table.SpanReversed row column) = field_refusal Jobs row column (codes " is above the next")
+table_text (table.ZeroCost row) = row_refusal Jobs row (codes " column 5 is 0" ∷ [])
+table_text (table.Twice row earlier) = repeat_refusal Jobs row earlier
+table_text table.Memory = no_memory
+
+-- why a file beside the job file is refused
+unfoldable pub side_text : FileKind → SideFault → List ℕ
+side_text file (side.Csv fault) = csv_text file fault
+side_text file (side.Unknown row column) = field_refusal file row column (codes " names no job")
+side_text file (side.Missing job) = []
+side_text file (side.Twice row earlier) = repeat_refusal file row earlier
+side_text file (side.Outside row column) = field_refusal file row column (codes " is outside")
+side_text file side.Memory = no_memory
+
+-- the text of a fault
+unfoldable pub fault_text : Fault → List ℕ
+fault_text fault.Usage = line (codes "usage: sag replay JOBS SCENARIO" ∷ [])
+fault_text (fault.TooLong file) = refusal file (codes " file too long" ∷ [])
+fault_text (fault.Csv file why) = csv_text file why
+fault_text (fault.Table why) = table_text why
+fault_text (fault.Side file why) = side_text file why
+fault_text (fault.NoRow file task job) = refusal file (codes " has no row for job " ∷ decimal task ∷ codes " " ∷ decimal job ∷ [])
+fault_text (fault.CannotRead file) = line (codes "cannot read " ∷ file_word file ∷ [])
+fault_text fault.CannotWrite = line (codes "cannot write" ∷ [])
+fault_text fault.NoMemory = no_memory
+
+-- every fault has a text, but a job without a row, which is told by its IDs
+abbrev pub has_text : Fault → Bool
+has_text (fault.Side file (side.Missing job)) = false
+has_text other = true
+
+-- the same as a fact
+abbrev pub HasText : Fault → Type 0
+HasText fault = IsTrue (has_text fault)

@@ -1,0 +1,35 @@
+// What a call of `sag` can be refused for.
+
+use csv_numbers::CsvFault;
+use job_model::TableFault;
+use side_csv::SideFault;
+
+/// A file of the command line, by what it holds.
+#[derive(Clone, Copy, PartialEq, Eq, Debug)]
+pub enum FileKind {
+    Jobs,
+    Scenario,
+}
+
+/// Why there is no answer. Rows are counted from 1, after the heading, and columns from 1.
+#[derive(Debug, Drop)]
+pub enum Fault {
+    /// The words ask for no command.
+    Usage,
+    /// The file has more bytes than are read.
+    TooLong(FileKind),
+    /// The file is no table of numbers.
+    Csv(FileKind, CsvFault),
+    /// The rows of the job file are no job table.
+    Table(TableFault),
+    /// A file beside the job file does not fit the job table.
+    Side(FileKind, SideFault),
+    /// The file has no row for this job: (file, task ID, job ID).
+    NoRow(FileKind, u64, u64),
+    /// Reading the file failed.
+    CannotRead(FileKind),
+    /// Writing the answer failed.
+    CannotWrite,
+    /// Memory ran out.
+    NoMemory,
+}

@@ -1,0 +1,101 @@
+ghost use Rattle.sag_texts.specs.FaultTexts.{HasText};
+
+use crate::FileKind::{Jobs, Scenario};
+use crate::{Fault, write_fault};
+use csv_numbers::CsvFault;
+use job_model::TableFault;
+use sag_edge::MemSink;
+use side_csv::SideFault;
+use std::alloc::Global;
+use std::process::Abort;
+use std::test::Fail;
+
+/// The fault is told by this line, to a sink that takes three bytes at a time.
+fn is_told(rt: &impl Abort, alloc: Global, line: &str, fault: Fault) -> Result<(), Fail>
+    requires { HasText fault }
+{
+    let mut sink = MemSink::new(alloc, 100, 3, Vec::new(alloc))?;
+    assert!(rt; write_fault(&mut sink, &fault).is_ok(), "at {line}");
+    let line = format!(in alloc; "{line}\n")?;
+    assert_eq!(rt; sink.bytes(), line.as_bytes());
+    Ok(())
+}
+
+#[test]
+fn tells_faults(rt: HostRuntime) -> Result<(), Fail> {
+    let a = rt.alloc();
+    let usage = "usage: sag replay JOBS SCENARIO";
+    is_told(&rt, a, usage, Fault::Usage)?;
+    let too_long = "refused jobs file too long";
+    is_told(&rt, a, too_long, Fault::TooLong(Jobs))?;
+    let no_row = "refused scenario has no row for job 1 18446744073709551615";
+    is_told(&rt, a, no_row, Fault::NoRow(Scenario, 1, u64::MAX))?;
+    is_told(&rt, a, "cannot read jobs", Fault::CannotRead(Jobs))?;
+    is_told(&rt, a, "cannot write", Fault::CannotWrite)?;
+    is_told(&rt, a, "no memory", Fault::NoMemory)
+}
+
+#[test]
+fn tells_csv_faults(rt: HostRuntime) -> Result<(), Fail> {
+    let above = "refused jobs row 1 column 7 is above 18446744073709551615";
+    for (line, why) in [
+        ("refused jobs no heading", CsvFault::NoHeading),
+        ("refused jobs row 1 has 70 fields", CsvFault::Width(1, 70)),
+        (
+            "refused jobs row 2 column 8 is no number",
+            CsvFault::NotNumber(2, 8),
+        ),
+        (above, CsvFault::TooBig(1, 7)),
+    ] {
+        is_told(&rt, rt.alloc(), line, Fault::Csv(Jobs, why))?;
+    }
+    Ok(())
+}
+
+#[test]
+fn tells_table_faults(rt: HostRuntime) -> Result<(), Fail> {
+    for (line, why) in [
+        ("refused jobs too many rows", TableFault::TooMany),
+        (
+            "refused jobs row 1 column 4 is above the limit",
+            TableFault::OverLimit(1, 4),
+        ),
+        (
+            "refused jobs row 1 column 3 is above the next",
+            TableFault::SpanReversed(1, 3),
+        ),
+        ("refused jobs row 2 column 5 is 0", TableFault::ZeroCost(2)),
+        ("refused jobs row 3 repeats row 1", TableFault::Twice(3, 1)),
+    ] {
+        is_told(&rt, rt.alloc(), line, Fault::Table(why))?;
+    }
+    Ok(())
+}
+
+#[test]
+fn tells_side_faults(rt: HostRuntime) -> Result<(), Fail> {
+    let a = rt.alloc();
+    let csv = Fault::Side(Scenario, SideFault::Csv(CsvFault::NoHeading));
+    is_told(&rt, a, "refused scenario no heading", csv)?;
+    let unknown = Fault::Side(Scenario, SideFault::Unknown(4, 1));
+    let line = "refused scenario row 4 column 1 names no job";
+    is_told(&rt, a, line, unknown)?;
+    let twice = Fault::Side(Scenario, SideFault::Twice(2, 1));
+    is_told(&rt, a, "refused scenario row 2 repeats row 1", twice)?;
+    let outside = Fault::Side(Scenario, SideFault::Outside(1, 3));
+    is_told(
+        &rt,
+        a,
+        "refused scenario row 1 column 3 is outside",
+        outside,
+    )
+}
+
+#[test]
+fn stops_at_a_fault(rt: HostRuntime) -> Result<(), Fail> {
+    let failing = vec![in rt.alloc(); 2]?;
+    let mut sink = MemSink::new(rt.alloc(), 100, 3, failing)?;
+    assert!(rt; write_fault(&mut sink, &Fault::CannotWrite).is_err());
+    assert_eq!(rt; sink.bytes(), b"can".as_slice());
+    Ok(())
+}

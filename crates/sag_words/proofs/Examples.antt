@@ -1,0 +1,101 @@
+-- What some lists of words after `replay` come to.
+use Rattle.std.proofs.Common.{◌≡◌, ◌∷◌, [], Some, codes, refl, true}
+use Rattle.clap.specs.Words.{fault_of, is_simple_and_free}
+use Rattle.clap.specs.declared.error.kind.ErrorKind.TheVariants.{MissingRequiredArgument, UnknownArgument}
+use Rattle.clap.proofs.OnLiterals.{clap_on_literals}
+use Rattle.sag_words.specs.Apps.{Takes, replay_app, value_at}
+
+simple : is_simple_and_free replay_app ≡ true
+simple = refl
+
+plain : Takes replay_app (codes "J" ∷ codes "S" ∷ [])
+unfolding clap_on_literals Takes
+plain = refl
+
+plain_jobs : value_at replay_app (codes "J" ∷ codes "S" ∷ []) (codes "JOBS") ≡ Some (codes "J")
+unfolding clap_on_literals value_at
+plain_jobs = refl
+
+plain_scenario : value_at replay_app (codes "J" ∷ codes "S" ∷ []) (codes "SCENARIO") ≡ Some (codes "S")
+unfolding clap_on_literals value_at
+plain_scenario = refl
+
+none : fault_of replay_app [] ≡ MissingRequiredArgument ∷ []
+unfolding clap_on_literals
+none = refl
+
+one : fault_of replay_app (codes "J" ∷ []) ≡ MissingRequiredArgument ∷ []
+unfolding clap_on_literals
+one = refl
+
+stray : fault_of replay_app (codes "J" ∷ codes "S" ∷ codes "X" ∷ []) ≡ UnknownArgument ∷ []
+unfolding clap_on_literals
+stray = refl
+
+-- there is no help
+help : fault_of replay_app (codes "J" ∷ codes "S" ∷ codes "--help" ∷ []) ≡ UnknownArgument ∷ []
+unfolding clap_on_literals
+help = refl
+
+short_help : fault_of replay_app (codes "J" ∷ codes "S" ∷ codes "-h" ∷ []) ≡ UnknownArgument ∷ []
+unfolding clap_on_literals
+short_help = refl
+
+help_taken : Takes replay_app (codes "help" ∷ codes "S" ∷ [])
+unfolding clap_on_literals Takes
+help_taken = refl
+
+help_jobs : value_at replay_app (codes "help" ∷ codes "S" ∷ []) (codes "JOBS") ≡ Some (codes "help")
+unfolding clap_on_literals value_at
+help_jobs = refl
+
+-- the empty word and `-` are words like others
+empty_taken : Takes replay_app ([] ∷ codes "S" ∷ [])
+unfolding clap_on_literals Takes
+empty_taken = refl
+
+empty_jobs : value_at replay_app ([] ∷ codes "S" ∷ []) (codes "JOBS") ≡ Some []
+unfolding clap_on_literals value_at
+empty_jobs = refl
+
+hyphen_taken : Takes replay_app (codes "-" ∷ codes "S" ∷ [])
+unfolding clap_on_literals Takes
+hyphen_taken = refl
+
+hyphen_jobs : value_at replay_app (codes "-" ∷ codes "S" ∷ []) (codes "JOBS") ≡ Some (codes "-")
+unfolding clap_on_literals value_at
+hyphen_jobs = refl
+
+negative : fault_of replay_app (codes "-1" ∷ codes "S" ∷ []) ≡ UnknownArgument ∷ []
+unfolding clap_on_literals
+negative = refl
+
+-- the name of a place is no option, and an option has a name
+place_as_option : fault_of replay_app (codes "J" ∷ codes "S" ∷ codes "--JOBS=x" ∷ []) ≡ UnknownArgument ∷ []
+unfolding clap_on_literals
+place_as_option = refl
+
+no_option : fault_of replay_app (codes "J" ∷ codes "S" ∷ codes "--=2" ∷ []) ≡ UnknownArgument ∷ []
+unfolding clap_on_literals
+no_option = refl
+
+-- after `--` every word has a place
+dashes_taken : Takes replay_app (codes "--" ∷ codes "--cores" ∷ codes "-x" ∷ [])
+unfolding clap_on_literals Takes
+dashes_taken = refl
+
+dashes_jobs : value_at replay_app (codes "--" ∷ codes "--cores" ∷ codes "-x" ∷ []) (codes "JOBS") ≡ Some (codes "--cores")
+unfolding clap_on_literals value_at
+dashes_jobs = refl
+
+dashes_scenario : value_at replay_app (codes "--" ∷ codes "--cores" ∷ codes "-x" ∷ []) (codes "SCENARIO") ≡ Some (codes "-x")
+unfolding clap_on_literals value_at
+dashes_scenario = refl
+
+twice_taken : Takes replay_app (codes "J" ∷ codes "--" ∷ codes "--" ∷ [])
+unfolding clap_on_literals Takes
+twice_taken = refl
+
+twice_scenario : value_at replay_app (codes "J" ∷ codes "--" ∷ codes "--" ∷ []) (codes "SCENARIO") ≡ Some (codes "--")
+unfolding clap_on_literals value_at
+twice_scenario = refl

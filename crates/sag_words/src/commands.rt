@@ -1,0 +1,41 @@
+// One function a command: the words after its name.
+
+ghost use Rattle.std.specs.Prelude.{◌≡◌, IfErr, IfOk, codes, map, string_bytes};
+ghost use Rattle.sag_words.specs.Words.{Asks};
+ghost use Rattle.sag_words.specs.declared.Command.{Command};
+
+use crate::parse::matched;
+use crate::{Command, WordFault};
+use sag_edge::FileName;
+use std::alloc::Global;
+
+/// What a command's name and the words after it ask for.
+pub(crate) fn read_named(alloc: Global, name: &str, rest: &[String]) -> Result<Command, WordFault>
+    ensures read { IfOk result (Asks name.now (map string_bytes rest.now)) }
+    ensures usage { IfErr result (λ fault. fault ≡ WordFault.Usage →
+        (command : Command) → Asks name.now (map string_bytes rest.now) command → ⊥) }
+{
+    match name {
+        "replay" => read_replay(alloc, rest),
+        _ => Err(WordFault::Usage),
+    }
+}
+
+/// `replay JOBS SCENARIO`
+fn read_replay(alloc: Global, words: &[String]) -> Result<Command, WordFault>
+    ensures read { IfOk result (Asks (codes "replay") (map string_bytes words.now)) }
+    ensures usage { IfErr result (λ fault. fault ≡ WordFault.Usage →
+        (command : Command) → Asks (codes "replay") (map string_bytes words.now) command → ⊥) }
+{
+    let matches = matched(alloc, "replay", &["JOBS", "SCENARIO"], words)?;
+    let Some(jobs) = matches.get_str("JOBS") else {
+        return Err(WordFault::Usage);
+    };
+    let Some(scenario) = matches.get_str("SCENARIO") else {
+        return Err(WordFault::Usage);
+    };
+    Ok(Command::Replay {
+        jobs: FileName::from_text(alloc, jobs)?,
+        scenario: FileName::from_text(alloc, scenario)?,
+    })
+}
