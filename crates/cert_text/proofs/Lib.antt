@@ -1,0 +1,16 @@
+mod Clauses
+mod Decode
+mod Digits
+mod Short
+mod Spelled
+mod Sound
+mod Live
+mod LineEnds
+mod LineKinds
+mod Texts
+mod Prefixes
+mod Feeds
+mod FirstLines
+mod OneHeld
+mod Pieces
+mod Runs

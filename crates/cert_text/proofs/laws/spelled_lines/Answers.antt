@@ -1,0 +1,5 @@
+use Rattle.cert_text.proofs.Decode.{spelled_lines}
+use Rattle.cert_text.proofs.laws.spelled_lines.Goals as goal
+
+pub returns : goal.returns
+returns c = spelled_lines

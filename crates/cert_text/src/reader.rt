@@ -1,0 +1,168 @@
+//! A reader of certificates, over any pieces.
+
+ghost use Rattle.std.specs.Prelude.{◌≡◌, ◌≤◌, ◌<◌, ◌+◌, ◌^◌, ℕ, List, [], length, false, None, IfOk, IfSome};
+ghost use Rattle.cert_text.specs.Reading.{AfterPiece, Closes, IfFault, IfOpen, IfReady, IfWaiting, is_end, lines_of, standing_at};
+ghost use Rattle.cert_text.specs.Spelling.{first_version, FitsLine};
+ghost use Rattle.cert_text.specs.Taken.{Open, Takes};
+
+use crate::fault::FeedFault;
+use crate::feed::{LineFault, Progress, no_draft, take_piece};
+use crate::line::CertLine;
+use crate::spot::{Draft, Spot, Standing, first_version};
+use std::alloc::Global;
+use std::marker::Model;
+
+/// Reads the lines of a certificate from its bytes, in pieces that may be cut anywhere. A line that came whole waits
+/// until it is taken out; the next one is read then. A fault is kept.
+#[derive(Drop)]
+pub struct CertReader {
+    alloc: Global,
+    // whole lines so far, and whether the last was the end line
+    lines: u64,
+    ended: bool,
+    // the line that is being read, and how many of its bytes have come
+    draft: Draft,
+    spot: Spot,
+    at: u64,
+    waiting: Option<CertLine>,
+    fault: Option<FeedFault>,
+}
+
+impl Model for CertReader {
+    ghost use Rattle.std.specs.Prelude.{◌≤◌, ◌^◌, IfSome};
+    ghost use Rattle.cert_text.specs.Machine.{shown};
+    ghost use Rattle.cert_text.specs.Reading.{Reading, Stands, held_of};
+    ghost use Rattle.cert_text.specs.Spelling.{first_version, FitsLine};
+
+    ghost Value = { Reading };
+
+    ghost view = { λ r. record {
+      held = held_of r.fault r.lines (shown first_version r.draft r.spot) r.ended;
+      waiting = r.waiting;
+    } };
+
+    ghost invariant = { λ r. Stands r.lines r.ended r.draft r.spot r.at × (r.lines ≤ 2 ^ 63)
+        × IfSome r.waiting (λ line. FitsLine first_version line) };
+}
+
+fn is_end_line(line: &CertLine) -> bool
+    ensures { result ≡ is_end line.now }
+{
+    matches!(line, CertLine::End)
+}
+
+fn standing_behind(lines: u64, ended: bool) -> Standing
+    ensures { result ≡ standing_at lines ended }
+{
+    if ended {
+        Standing::Over
+    } else if lines == 0 {
+        Standing::First
+    } else {
+        Standing::Inside
+    }
+}
+
+impl CertReader {
+    /// A reader of no bytes.
+    pub fn new(alloc: Global) -> CertReader
+        ensures empty { result ≡ record { held = Open 0 [] false; waiting = None } }
+        ensures start { Takes first_version [] result.held }
+    {
+        CertReader {
+            alloc,
+            lines: 0,
+            ended: false,
+            draft: no_draft(alloc),
+            spot: Spot::Start,
+            at: 0,
+            waiting: None,
+            fault: None,
+        }
+    }
+
+    /// Takes a piece through its first LF, or whole where it has none, and gives the number of bytes taken: 0 while a line
+    /// waits.
+    pub fn feed(&mut self, piece: &[u8]) -> Result<usize, FeedFault>
+        requires few_lines { lines_of self.old.held < 2 ^ 63 }
+        ensures kept { IfFault self.old.held (λ fault. (result ≡ Err fault) × (self.new ≡ self.old)) }
+        ensures waits { IfWaiting self.old.held self.old.waiting ((result ≡ Ok 0) × (self.new ≡ self.old)) }
+        ensures takes { IfReady self.old.held self.old.waiting (λ rest.
+            AfterPiece self.old.held rest piece.now result self.new) }
+        ensures within { IfOk result (λ count. count ≤ length piece.now) }
+        ensures lines { lines_of self.new.held ≤ lines_of self.old.held + 1 }
+    {
+        if let Some(fault) = self.fault {
+            return Err(fault);
+        }
+        if self.waiting.is_some() {
+            return Ok(0);
+        }
+        let standing = standing_behind(self.lines, self.ended);
+        match take_piece(
+            self.alloc,
+            first_version(),
+            standing,
+            &mut self.draft,
+            &mut self.spot,
+            piece,
+        ) {
+            Ok(Progress::Part { count }) => {
+                self.at += count as u64;
+                Ok(count)
+            }
+            Ok(Progress::Line { count, line }) => {
+                self.at = 0;
+                self.lines += 1;
+                self.ended = is_end_line(&line);
+                self.waiting = Some(line);
+                Ok(count)
+            }
+            Err(LineFault::Wrong(index)) => {
+                let fault = FeedFault::Text {
+                    line: self.lines + 1,
+                    byte: self.at + index as u64 + 1,
+                };
+                self.draft = no_draft(self.alloc);
+                self.spot = Spot::Start;
+                self.at = 0;
+                self.fault = Some(fault);
+                Err(fault)
+            }
+            Err(LineFault::Memory) => {
+                self.draft = no_draft(self.alloc);
+                self.spot = Spot::Start;
+                self.at = 0;
+                self.fault = Some(FeedFault::Memory);
+                Err(FeedFault::Memory)
+            }
+        }
+    }
+
+    /// Takes out the line that waits.
+    pub fn take(&mut self) -> Option<CertLine>
+        ensures line { result ≡ self.old.waiting }
+        ensures left { self.new ≡ record { held = self.old.held; waiting = None } }
+        ensures fits { IfSome result (λ line. FitsLine first_version line) }
+    {
+        self.waiting.take()
+    }
+
+    /// Ends the certificate: a kept fault, or the place of the missing byte where an end line has not come.
+    pub fn close(self) -> Result<(), FeedFault>
+        ensures kept { IfFault self.held (λ fault. result ≡ Err fault) }
+        ensures closes { IfOpen self.held
+            ((bytes : List ℕ) → Takes first_version bytes self.held → Closes bytes result) }
+    {
+        if let Some(fault) = self.fault {
+            Err(fault)
+        } else if self.ended {
+            Ok(())
+        } else {
+            Err(FeedFault::Text {
+                line: self.lines + 1,
+                byte: self.at + 1,
+            })
+        }
+    }
+}
