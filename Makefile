@@ -25,6 +25,7 @@ install: program
 
 bench: program
 	python3 bench/replay.py $(PROGRAM)
+	@cd crates/cert_speed && rt run >/dev/null 2>&1 && bash -c 'time out/cert_speed'
 
 # Proves and builds the program. What is proved already is not proved again.
 program:

@@ -83,11 +83,15 @@ fn reads_and_writes_back(rt: HostRuntime) {
 
 #[test]
 fn names_the_first_wrong_byte(rt: HostRuntime) -> Result<(), Fail> {
-    let mut behind = Vec::from_slice(rt.alloc(), one_core())?;
-    behind.push(b'\n')?;
-    let mut copied = Vec::new(rt.alloc());
-    let want = Err(FeedFault::Text { line: 17, byte: 1 });
-    assert_eq!(rt; copy(rt.alloc(), behind.as_slice(), 7, &mut copied), want);
+    for behind in [b"\n".as_slice(), one_core()] {
+        let mut text = Vec::from_slice(rt.alloc(), one_core())?;
+        text.extend_from_slice(behind)?;
+        for cut in [1, 7, 1000] {
+            let mut copied = Vec::new(rt.alloc());
+            let want = Err(FeedFault::Text { line: 17, byte: 1 });
+            assert_eq!(rt; copy(rt.alloc(), text.as_slice(), cut, &mut copied), want);
+        }
+    }
     let cases = [
         (leading_zero(false), 10, 10),
         (leading_zero(true), 9, 10),
@@ -117,6 +121,32 @@ fn names_the_first_wrong_byte(rt: HostRuntime) -> Result<(), Fail> {
         }
     }
     Ok(())
+}
+
+// The place of the byte behind a text: its line and its number in the line.
+fn place_behind(text: &[u8]) -> (u64, u64) {
+    let lines = text.iter().filter(|b| **b == b'\n').count();
+    let bytes = text.iter().rev().take_while(|b| **b != b'\n').count();
+    (
+        (lines as u64).saturating_add(1),
+        (bytes as u64).saturating_add(1),
+    )
+}
+
+#[test]
+fn names_the_missing_byte(rt: HostRuntime) {
+    for count in 0..202 {
+        let (line, byte) = place_behind(begun(count));
+        for cut in [1, 7, 1000] {
+            let mut copied = Vec::new(rt.alloc());
+            let want = Err(FeedFault::Text { line, byte });
+            assert_eq!(rt;
+                copy(rt.alloc(), begun(count), cut, &mut copied),
+                want,
+                "{count}"
+            );
+        }
+    }
 }
 
 // A head line, and a line of a front and so many items.
