@@ -1,4 +1,5 @@
 pub mod TableLemmas
 pub mod Tables
 pub mod UrgencyLaws
+mod WorkedEdges
 mod WorkedUrgency

@@ -2,4 +2,5 @@ pub mod Numbers
 pub mod Urgency
 pub mod Table
 pub mod TableFaults
+pub mod EdgeFaults
 pub mod Scenario

@@ -5,8 +5,10 @@
 --     id_of a, HaveOneId a b     what names a job: its task and its number there
 --     predecessors table j       the jobs that must finish before j starts, in rising order where the edges rise
 --     successors table j         the jobs that wait for j
+--     edge_cmp                   the order of edges: by predecessor, then by successor
 --     IsTable table              what a table of the program keeps
 use Rattle.std.specs.Prelude.{◌≡◌, ℕ, [], zero, suc, Bool, List, ◌≤◌, ◌<◌, ◌==◌, length, map, filter, slice_index_or, All, AllPairs, Contains}
+use Rattle.std.specs.declared.cmp.Ordering.{Ordering}
 use Rattle.std.specs.Ordering.{nat_cmp, then_cmp, on}
 use Rattle.std.specs.List.Sorted.{IsStrictlySortedBy}
 use Rattle.job_model.specs.declared.Job.{Job}
@@ -63,12 +65,16 @@ id_of a = (a.task, a.job)
 abbrev pub HaveOneId : Job → Job → Type 0
 HaveOneId a b = (a.task ≡ b.task) × (a.job ≡ b.job)
 
+-- by predecessor, then by successor
+abbrev pub edge_cmp : ℕ × ℕ → ℕ × ℕ → Ordering
+edge_cmp = then_cmp (on (λ e. e.0) nat_cmp) (on (λ e. e.1) nat_cmp)
+
 -- What a table keeps: few jobs, no two of the same IDs, and few edges, which rise, name jobs and close no cycle.
 pub record IsTable (table : Table) : Type 0 where
   pub few_jobs : length table.jobs ≤ MOST_JOBS
   pub jobs : All IsJob table.jobs
   pub ids_differ : AllPairs (λ a b. ¬ HaveOneId a b) table.jobs
   pub few_edges : length table.edges ≤ MOST_EDGES
-  pub edges_rise : IsStrictlySortedBy (then_cmp (on (λ e. e.0) nat_cmp) (on (λ e. e.1) nat_cmp)) table.edges
+  pub edges_rise : IsStrictlySortedBy edge_cmp table.edges
   pub edges_in_range : All (λ e. (e.0 < length table.jobs) × (e.1 < length table.jobs)) table.edges
   pub no_cycle : (j n : ℕ) → ¬ Walk table.edges j j (suc n)

@@ -1,4 +1,4 @@
-// Why a job table is refused.
+// Why a job table or its precedence edges are refused.
 
 use thiserror::Error;
 
@@ -20,6 +20,23 @@ pub enum TableFault {
     /// The row has the IDs of an earlier one: row, earlier row.
     #[error("row {0} repeats row {1}")]
     Twice(u32, u32),
+    /// Memory ran out.
+    #[error("no memory")]
+    Memory,
+}
+
+/// The first rule that precedence rows break. Rows are counted from 1.
+#[derive(Clone, Copy, Debug, PartialEq, Eq, Error)]
+pub enum EdgeFault {
+    /// There are more rows than a table may have.
+    #[error("too many rows")]
+    TooManyEdges,
+    /// The row names one job twice: row.
+    #[error("row {0} names one job twice")]
+    SelfEdge(u32),
+    /// The row closes a cycle with those before it: row.
+    #[error("row {0} closes a cycle")]
+    Cycle(u32),
     /// Memory ran out.
     #[error("no memory")]
     Memory,

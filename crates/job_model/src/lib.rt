@@ -7,7 +7,7 @@ mod table;
 #[cfg(test)]
 mod tests;
 
-pub use fault::TableFault;
+pub use fault::{EdgeFault, TableFault};
 pub use job_sets::JobNo;
 pub use scenario::Scenario;
 pub use table::JobTable;
@@ -46,4 +46,13 @@ pub struct Job {
     pub deadline: u64,
     /// The priority: the smaller number is the more urgent.
     pub priority: u64,
+}
+
+/// An end of an interval of finish times.
+#[derive(Clone, Copy, PartialEq, Eq, Debug)]
+pub enum End {
+    /// The earliest finish.
+    Best,
+    /// The latest finish.
+    Worst,
 }
