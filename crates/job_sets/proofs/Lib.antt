@@ -1,0 +1,4 @@
+pub mod Additions
+pub mod Members
+mod Searches
+mod Worked

@@ -1,0 +1,9 @@
+mod Carried
+pub mod Counts
+pub mod IntervalLaws
+pub mod StartCounts
+pub mod SortedLists
+pub mod SortedCounts
+mod WrittenBack
+pub mod ZippedLists
+mod Worked

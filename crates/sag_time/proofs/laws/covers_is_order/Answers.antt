@@ -1,0 +1,5 @@
+use Rattle.sag_time.proofs.IntervalLaws as law
+use Rattle.sag_time.proofs.laws.covers_is_order.Goals as goal
+
+pub returns : goal.returns
+returns c = law.covers_is_order

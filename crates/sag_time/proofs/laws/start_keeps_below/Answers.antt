@@ -1,0 +1,5 @@
+use Rattle.sag_time.proofs.SortedLists as law
+use Rattle.sag_time.proofs.laws.start_keeps_below.Goals as goal
+
+pub returns : goal.returns
+returns c = law.start_keeps_below
