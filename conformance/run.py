@@ -5,7 +5,7 @@ usage: run.py PROGRAM [CALLS ..]
 
 Each line of a file of calls is a JSON object: `words` after the program's name, `files` by name, `status`, `out` and
 `err`, with bytes as Latin-1 text. An `err` of null is the usage text, which stands in usage.txt. Each call runs in a
-fresh folder that holds its files alone. Calls with a word that the program does not know yet wait, and are counted.
+fresh folder that holds its files alone.
 """
 
 import json
@@ -16,15 +16,7 @@ import tempfile
 
 HERE = pathlib.Path(__file__).resolve().parent
 
-# words that later commands and options bring
-WAITING = ("--", "--cores", "--prec")
-
 SECONDS = 60
-
-
-def waits(call):
-    """Whether a word of the call is not known yet."""
-    return any(word in WAITING or word.split("=")[0] in WAITING[1:] for word in call["words"])
 
 
 def expected(call):
@@ -44,20 +36,16 @@ def run(program, call):
 
 def main(program, paths):
     program = str(pathlib.Path(program).resolve())
-    passed = failed = waiting = 0
+    passed = failed = 0
     for path in paths:
         for number, line in enumerate(path.read_text(encoding="utf-8").splitlines(), start=1):
             call = json.loads(line)
-            if waits(call):
-                waiting += 1
-                continue
             want, got = expected(call), run(program, call)
             if want == got:
                 passed += 1
             else:
                 failed += 1
                 print(f"{path.name}:{number}: {call['words']}: wanted {want}, got {got}")
-    print(f"conformance: {waiting} wait for {', '.join(WAITING)}")
     print(f"conformance: {passed} passed, {failed} failed")
     return 1 if failed else 0
 

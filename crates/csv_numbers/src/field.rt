@@ -1,13 +1,19 @@
-// One field: the blanks at its ends, its digits and its value.
+// One number: its digits and its value; and the blanks at the ends of a field.
 
 ghost use Rattle.std.specs.Prelude.{◌≡◌, ◌≤◌, ◌<◌, ◌^◌, ◌↔◌, IsTrue, MatchResult, MatchOption, reverse};
 ghost use Rattle.csv_numbers.specs.Fields.{IsNumber, IsTooBig, Spells, bare, is_blank, value_of, without_blanks};
 ghost use Rattle.csv_numbers.specs.RowFaults.{IsFaultOf};
 
-// Why a text is no number.
-#[derive(Clone, Copy, Debug)]
-pub(crate) enum NumberFault {
+use thiserror::Error;
+
+/// Why a text spells no number of 64 bits.
+#[derive(Clone, Copy, Debug, PartialEq, Eq, Error)]
+pub enum NumberFault {
+    /// It is not one or more digits.
+    #[error("no number")]
     NotNumber,
+    /// Its value does not fit 64 bits.
+    #[error("above 18446744073709551615")]
     TooBig,
 }
 
@@ -67,11 +73,10 @@ fn value(digits: &[u8]) -> Option<u64>
     Some(value)
 }
 
-// The number that a field spells.
-pub(crate) fn read_number(field: &[u8]) -> Result<u64, NumberFault>
-    ensures { MatchResult result (Spells (bare field.now)) (IsFaultOf (bare field.now)) }
+/// The number that a text spells: one or more ASCII digits and nothing else, with any number of zeros in front.
+pub fn read_number(text: &[u8]) -> Result<u64, NumberFault>
+    ensures { MatchResult result (Spells text.now) (IsFaultOf text.now) }
 {
-    let text = trimmed_back(trimmed_front(field));
     if !is_number(text) {
         return Err(NumberFault::NotNumber);
     }
@@ -79,4 +84,11 @@ pub(crate) fn read_number(field: &[u8]) -> Result<u64, NumberFault>
         Some(number) => Ok(number),
         None => Err(NumberFault::TooBig),
     }
+}
+
+// The number that a field spells between its blanks.
+pub(crate) fn read_field(field: &[u8]) -> Result<u64, NumberFault>
+    ensures { MatchResult result (Spells (bare field.now)) (IsFaultOf (bare field.now)) }
+{
+    read_number(trimmed_back(trimmed_front(field)))
 }

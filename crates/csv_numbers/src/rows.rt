@@ -6,7 +6,7 @@ ghost use Rattle.csv_numbers.specs.RowFaults.{Names, RowBreaks};
 ghost use Rattle.csv_numbers.specs.Rows.{FirstFault, RowReads, Rows};
 
 use crate::fault::CsvFault;
-use crate::field::{NumberFault, read_number};
+use crate::field::{NumberFault, read_field};
 use csv::{ByteRecord, ReaderBuilder};
 use std::alloc::Global;
 use std::marker::Model;
@@ -51,7 +51,7 @@ fn read_row(alloc: Global, entry: &ByteRecord, width: u8, place: u64) -> Result<
         let Some(field) = entry.get(usize::from(column)) else {
             unreachable!()
         };
-        let number = match read_number(field) {
+        let number = match read_field(field) {
             Ok(number) => number,
             Err(NumberFault::NotNumber) => return Err(CsvFault::NotNumber(place, column + 1)),
             Err(NumberFault::TooBig) => return Err(CsvFault::TooBig(place, column + 1)),

@@ -1,4 +1,4 @@
-use crate::{CsvFault, read_numbers, write_table};
+use crate::{CsvFault, NumberFault, read_number, read_numbers, write_table};
 use std::test::Fail;
 
 #[test]
@@ -94,6 +94,25 @@ fn names_the_first_fault(rt: HostRuntime) {
             Some(fault),
             "{text:?}"
         );
+    }
+}
+
+#[test]
+fn reads_one_number(rt: HostRuntime) {
+    for (text, want) in [
+        (b"0".as_slice(), Ok(0)),
+        (b"007".as_slice(), Ok(7)),
+        (b"18446744073709551615".as_slice(), Ok(18446744073709551615)),
+        (b"18446744073709551616".as_slice(), Err(NumberFault::TooBig)),
+        (b"".as_slice(), Err(NumberFault::NotNumber)),
+        (b" 7".as_slice(), Err(NumberFault::NotNumber)),
+        (b"+7".as_slice(), Err(NumberFault::NotNumber)),
+        (
+            b"99999999999999999999x".as_slice(),
+            Err(NumberFault::NotNumber),
+        ),
+    ] {
+        assert_eq!(rt; read_number(text), want, "{text:?}");
     }
 }
 

@@ -23,7 +23,8 @@ urgent-trans a b c p q = ap is_lt (urgency_total.trans a b c (is_Less _ p) (is_L
 pub urgent_one_way : (a b : Job) → is_more_urgent a b ≡ true → is_more_urgent b a ≡ false
 urgent_one_way a b p = ap is_lt (urgency_total.antisymm b a ∙ ap ordering_reverse (is_Less _ p))
 
-both_equal : (o p : Ordering) → ordering_then o p ≡ Equal → (o ≡ Equal) × (p ≡ Equal)
+-- a tie by two orders is a tie by each
+pub both_equal : (o p : Ordering) → ordering_then o p ≡ Equal → (o ≡ Equal) × (p ≡ Equal)
 both_equal Less p e = cc
 both_equal Equal p e = (refl, e)
 both_equal Greater p e = cc
@@ -33,7 +34,7 @@ equal_numbers x y Less h e = cc
 equal_numbers x y Equal h e = h
 equal_numbers x y Greater h e = cc
 
-numbers_tie : (x y : ℕ) → nat_cmp x y ≡ Equal → x ≡ y
+pub numbers_tie : (x y : ℕ) → nat_cmp x y ≡ Equal → x ≡ y
 numbers_tie x y e = equal_numbers x y (nat_cmp x y) (ranked x y (nat_cmp x y) refl) e
 
 -- two jobs of one urgency are one

@@ -1,38 +1,24 @@
 -- The first rule that precedence rows break, once each of them names two jobs: (predecessor, successor). Rows are counted from 1.
---     with_edge e edges              the rising list with e in its place, once
 --     edges_of rows                  the distinct edges of the rows, rising
---     HoldsCycle edges               a walk leads from a job back to itself
+--     KeepEdgeRules rows             there are not too many, and they close no cycle
 --     ReachedEdge rows row           the row of this number, where those before it close no cycle
 --     FirstEdgeFault rows fault      the first broken rule; want of memory may come at any rows
-use Rattle.std.specs.Prelude.{◌≡◌, ◌≢◌, ℕ, suc, ◌+◌, ◌<◌, ◌≤◌, List, [], ◌∷◌, ◌++◌, length, ⊤}
-use Rattle.std.specs.declared.cmp.Ordering.{Ordering}
-use Rattle.std.specs.declared.cmp.Ordering.TheVariants.{Less, Equal, Greater}
+use Rattle.std.specs.Prelude.{◌≡◌, ◌≢◌, ℕ, ◌+◌, ◌<◌, ◌≤◌, List, [], ◌∷◌, ◌++◌, fold, length, ⊤}
+use Rattle.std.specs.BTreeSet.{insert_key}
 use Rattle.job_model.specs.declared.TheConstants.{MOST_EDGES}
 use Rattle.job_model.specs.declared.fault.EdgeFault.{EdgeFault}
 use Rattle.job_model.specs.declared.fault.EdgeFault.TheVariants as fault
-use Rattle.job_model.specs.Table.{Walk, edge_cmp}
-
--- e before the first greater edge, and not twice
-abbrev pub put_edge : Ordering → ℕ × ℕ → ℕ × ℕ → List (ℕ × ℕ) → List (ℕ × ℕ) → List (ℕ × ℕ)
-put_edge Less e f more rest = e ∷ f ∷ rest
-put_edge Equal e f more rest = f ∷ rest
-put_edge Greater e f more rest = f ∷ more
-
--- the rising list with e in its place; an edge that is there already is not repeated
-abbrev pub with_edge : ℕ × ℕ → List (ℕ × ℕ) → List (ℕ × ℕ)
-with_edge e [] = e ∷ []
-with_edge e (f ∷ rest) = put_edge (edge_cmp e f) e f (with_edge e rest) rest
+use Rattle.job_model.specs.Cycles.{HoldsCycle}
+use Rattle.job_model.specs.Table.{edge_cmp}
 
 -- the distinct edges of the rows, rising
 abbrev pub edges_of : List (ℕ × ℕ) → List (ℕ × ℕ)
-edges_of [] = []
-edges_of (e ∷ rows) = with_edge e (edges_of rows)
+edges_of rows = fold (insert_key edge_cmp) [] rows
 
--- a walk leads from a job back to itself
-pub record HoldsCycle (edges : List (ℕ × ℕ)) : Type 0 where
-  pub job : ℕ
-  pub further : ℕ
-  pub walk : Walk edges job job (suc further)
+-- there are not too many rows, and they close no cycle
+pub record KeepEdgeRules (rows : List (ℕ × ℕ)) : Type 0 where
+  pub few : length rows ≤ MOST_EDGES
+  pub no_cycle : ¬ HoldsCycle rows
 
 -- The row of this number, where there are not too many and those before it close no cycle.
 pub record ReachedEdge (rows : List (ℕ × ℕ)) (row : ℕ) : Type 0 where

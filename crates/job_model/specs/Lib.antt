@@ -1,6 +1,9 @@
 pub mod Numbers
 pub mod Urgency
+pub mod Neighbours
 pub mod Table
 pub mod TableFaults
+pub mod Cycles
 pub mod EdgeFaults
+pub mod Releases
 pub mod Scenario

@@ -7,12 +7,13 @@
 --     successors table j         the jobs that wait for j
 --     edge_cmp                   the order of edges: by predecessor, then by successor
 --     IsTable table              what a table of the program keeps
-use Rattle.std.specs.Prelude.{◌≡◌, ℕ, [], zero, suc, Bool, List, ◌≤◌, ◌<◌, ◌==◌, length, map, filter, slice_index_or, All, AllPairs, Contains}
+use Rattle.std.specs.Prelude.{◌≡◌, ℕ, [], zero, suc, Bool, List, ◌≤◌, ◌<◌, length, slice_index_or, All, AllPairs, Contains}
 use Rattle.std.specs.declared.cmp.Ordering.{Ordering}
 use Rattle.std.specs.Ordering.{nat_cmp, then_cmp, on}
 use Rattle.std.specs.List.Sorted.{IsStrictlySortedBy}
 use Rattle.job_model.specs.declared.Job.{Job}
 use Rattle.job_model.specs.declared.TheConstants.{MOST_JOBS, MOST_EDGES, MOST_ARRIVAL, MOST_COST}
+use Rattle.job_model.specs.Neighbours.{sources, targets}
 use Rattle.job_model.specs.Urgency.{is_more_urgent}
 
 -- The jobs, and the precedence edges between their numbers: (predecessor, successor).
@@ -34,11 +35,11 @@ job_at table j = slice_index_or table.jobs j no_job
 
 -- the jobs that must finish before j starts
 abbrev pub predecessors : Table → ℕ → List ℕ
-predecessors table j = map (λ e. e.0) (filter (λ e. e.1 == j) table.edges)
+predecessors table j = sources table.edges j
 
 -- the jobs that wait for j
 abbrev pub successors : Table → ℕ → List ℕ
-successors table j = map (λ e. e.1) (filter (λ e. e.0 == j) table.edges)
+successors table j = targets table.edges j
 
 -- whether job number i is more urgent than job number j
 abbrev pub has_urgency_over : Table → ℕ → ℕ → Bool

@@ -1,7 +1,14 @@
 //! Jobs, job tables and scenarios.
 #![tactic(auto)]
 
+mod cycles;
+mod edge_rows;
+#[cfg(test)]
+mod edge_tests;
+mod edges;
 mod fault;
+mod job_lists;
+mod release_order;
 mod scenario;
 mod table;
 #[cfg(test)]

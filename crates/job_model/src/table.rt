@@ -1,11 +1,17 @@
 // Job tables.
 
-ghost use Rattle.std.specs.Prelude.{◌≡◌, ◌≢◌, ◌<◌, ◌≤◌, Contains, IfErr, IfNone, IfOk, IfSome, List, OnOk, length, map};
-ghost use Rattle.job_model.specs.Table.{IsJob, IsTable, has_urgency_over, id_of, job_at, table_of};
+ghost use Rattle.std.specs.Prelude.{◌≡◌, ◌≢◌, ◌<◌, ◌≤◌, Contains, IfErr, IfNone, IfOk, IfSome, List, OnOk, [], length, map};
+ghost use Rattle.job_model.specs.Table.{IsJob, IsTable, has_urgency_over, id_of, job_at, predecessors, successors, table_of};
+ghost use Rattle.job_model.specs.EdgeFaults.{FirstEdgeFault, KeepEdgeRules, edges_of};
+ghost use Rattle.job_model.specs.Neighbours.{JoinJobs};
+ghost use Rattle.job_model.specs.Releases.{IsReleaseOrder};
 ghost use Rattle.job_model.specs.TableFaults.{FirstTableFault, ReachedRow};
 ghost use Rattle.job_model.specs.TableFaults.{first_above as above};
 
-use crate::{Job, JobNo, MOST_ARRIVAL, MOST_COST, MOST_JOBS, TableFault};
+use crate::edge_rows::edges_of_rows;
+use crate::edges::Edges;
+use crate::release_order::release_order;
+use crate::{EdgeFault, Job, JobNo, MOST_ARRIVAL, MOST_COST, MOST_JOBS, TableFault};
 use indexmap::IndexSet;
 use std::alloc::Global;
 use std::marker::Model;
@@ -16,17 +22,22 @@ pub struct JobTable {
     jobs: Vec<Job>,
     // (task, job) of each job, so that the place in the set is the number of the job
     ids: IndexSet<(u64, u64)>,
+    edges: Edges,
+    by_release: Vec<(u64, JobNo)>,
 }
 
 impl Model for JobTable {
     ghost use Rattle.std.specs.Prelude.{◌≡◌, map};
-    ghost use Rattle.job_model.specs.Table.{IsTable, Table, id_of, table_of};
+    ghost use Rattle.job_model.specs.Releases.{IsReleaseOrder};
+    ghost use Rattle.job_model.specs.Table.{IsTable, Table, id_of};
 
     ghost Value = { Table };
 
-    ghost view = { λ t. table_of t.jobs.items };
+    ghost view = { λ t. record { jobs = t.jobs.items; edges = t.edges } };
 
-    ghost invariant = { λ t. IsTable (table_of t.jobs.items) × (t.ids.keys ≡ map id_of t.jobs.items) };
+    ghost invariant = { λ t. IsTable (record { jobs = t.jobs.items; edges = t.edges })
+        × (t.ids.keys ≡ map id_of t.jobs.items)
+        × IsReleaseOrder (record { jobs = t.jobs.items; edges = t.edges }) t.by_release.items };
 }
 
 // A column with its number and the greatest number that may stand there.
@@ -101,7 +112,41 @@ impl JobTable {
             return Err(TableFault::TooMany);
         }
         let ids = index_rows(alloc, &rows)?;
-        Ok(JobTable { jobs: rows, ids })
+        let Ok(by_release) = release_order(alloc, &rows) else {
+            return Err(TableFault::Memory);
+        };
+        Ok(JobTable {
+            jobs: rows,
+            ids,
+            edges: Edges::none(alloc),
+            by_release,
+        })
+    }
+
+    /// The table with the precedence edges of these rows: (predecessor, successor). A repeated row gives one edge.
+    /// Rows are counted from 1. A refusal hands the table back.
+    pub fn with_edges(
+        mut self,
+        alloc: Global,
+        rows: &[(JobNo, JobNo)],
+    ) -> Result<JobTable, (JobTable, EdgeFault)>
+        requires no_edges { self.edges ≡ [] }
+        requires in_range { JoinJobs (length self.jobs) rows.now }
+        ensures edges { IfOk result (λ t. t ≡ record { jobs = self.jobs; edges = edges_of rows.now }) }
+        ensures kept { OnOk result (KeepEdgeRules rows.now) }
+        ensures table { IfOk result IsTable }
+        ensures unchanged { IfErr result (λ refusal. refusal.0 ≡ self) }
+        ensures fault { IfErr result (λ refusal. FirstEdgeFault rows.now refusal.1) }
+        ensures refused { IfErr result (λ refusal. refusal.1 ≢ EdgeFault.Memory
+            → ¬ KeepEdgeRules rows.now) }
+    {
+        match edges_of_rows(alloc, self.len(), rows) {
+            Ok(edges) => {
+                self.edges = edges;
+                Ok(self)
+            }
+            Err(fault) => Err((self, fault)),
+        }
     }
 
     /// The number of jobs.
@@ -119,6 +164,38 @@ impl JobTable {
         ensures table { IsTable self.now }
     {
         &self.jobs[no.0 as usize]
+    }
+
+    /// The earliest release and the number of each job, by rising release. Jobs of one release stand in any order.
+    pub fn by_release(&self) -> &[(u64, JobNo)]
+        ensures order { IsReleaseOrder self.now result.now }
+        ensures table { IsTable self.now }
+    {
+        &self.by_release
+    }
+
+    /// The precedence edges (predecessor, successor), in rising order.
+    pub fn edges(&self) -> &[(JobNo, JobNo)]
+        ensures edges { result.now ≡ self.now.edges }
+        ensures table { IsTable self.now }
+    {
+        self.edges.list()
+    }
+
+    /// The jobs that must finish before that one starts, by rising number.
+    pub fn preds(&self, no: JobNo) -> &[JobNo]
+        ensures preds { result.now ≡ predecessors self.now no }
+        ensures table { IsTable self.now }
+    {
+        self.edges.preds(no)
+    }
+
+    /// The jobs that wait for that one, by rising number.
+    pub fn succs(&self, no: JobNo) -> &[JobNo]
+        ensures succs { result.now ≡ successors self.now no }
+        ensures table { IsTable self.now }
+    {
+        self.edges.succs(no)
     }
 
     /// The number of the job of these IDs.

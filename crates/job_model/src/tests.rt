@@ -55,6 +55,21 @@ fn looks_up_jobs(rt: HostRuntime) -> Result<(), Fail> {
     assert!(rt; table.urgent(JobNo(0), JobNo(1)));
     assert!(rt; !table.urgent(JobNo(1), JobNo(0)));
     assert_eq!(rt; *table.job(JobNo(1)), jobs()[1]);
+    assert!(rt; table.edges().is_empty());
+    assert!(rt; table.preds(JobNo(0)).is_empty());
+    assert!(rt; table.succs(JobNo(0)).is_empty());
+    Ok(())
+}
+
+#[test]
+fn orders_jobs_by_release(rt: HostRuntime) -> Result<(), Fail> {
+    let [first, second] = jobs();
+    let late = Job { rmin: 1, ..first };
+    let table = table_of(rt.alloc(), &[late, second])?;
+    assert_eq!(rt;
+        table.by_release(),
+        [(0, JobNo(1)), (1, JobNo(0))].as_slice()
+    );
     Ok(())
 }
 

@@ -1,7 +1,9 @@
-mod Left
+mod Counted
+mod First
+mod InHeaps
+mod Lacking
 mod NextTurn
-mod Part
 mod Queued
 mod ScheduleLemmas
 mod Standing
-mod Turns
+mod Unblocked

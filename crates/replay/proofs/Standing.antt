@@ -2,25 +2,28 @@
 --     Stands-first, AreFree-first        it holds at first
 --     time_limit, cost_limit             a turn's time and its job's cost are within limits
 --     Stands-more, AreFree-more          a turn keeps it
---     Stands-turned, AreFree-turned      the same, over the values that the loop has
+--     lack_turned                        the successors of the job that is dispatched lack it
+--     Stands-turned, AreFree-turned, AreCounted-turned      a turn over the values that the loop has
 --     Legal-from_stands, LowestIdle-from_stands      where no job is left, the places are a legal run
 use Rattle.std.proofs.Common.{◌≡◌, ◌≢◌, ℕ, zero, suc, ◌+◌, ◌*◌, ◌<◌, ◌≤◌, ◌⊎◌, inl, inr, Bool, true, false, List, length, get_or, set, refl, sym, ap, ◌∙◌, subst, arith}
-use Rattle.std.specs.Prelude.{slice_index, ◌==◌}
-use Rattle.std.proofs.lemmas.Bool.{cases_lt, cases_eq, eq-eqb}
+use Rattle.std.specs.Prelude.{count_by, slice_index, ◌==◌}
+use Rattle.std.proofs.lemmas.Bool.{cases_lt, cases_eq}
 use Rattle.std.proofs.lemmas.List.{length-set, get_or-set_same, get_or-set_other, length-replicate}
 use Rattle.std.proofs.Math.ListN.{replicate}
 use Rattle.job_model.specs.declared.TheConstants.{MOST_ARRIVAL, MOST_COST}
-use Rattle.job_model.specs.Table.{Table, IsTable, no_job, predecessors}
+use Rattle.job_model.specs.Table.{Table, IsTable, no_job, predecessors, successors}
 use Rattle.job_model.specs.Scenario.{Fits, cost_of, release_of}
 use Rattle.run_meaning.specs.declared.Place.{Place}
 use Rattle.run_meaning.specs.Ready.{core_of, finish_of, ready_time}
 use Rattle.run_meaning.specs.Legal.{Legal, LowestIdle}
 use Rattle.run_meaning.proofs.StartsAgree.{predecessors_below, ready_by}
 use Rattle.run_meaning.proofs.Sorted.{recursion_at}
-use Rattle.replay.specs.Queues.{Queued, copies, is_dispatched}
-use Rattle.replay.specs.Standing.{IsTurn, Stands, AreFree, LastOn, IsNext}
-use Rattle.replay.proofs.Part.{Adds, Adds-set, part_none, part_more, Legal-from_part, LowestIdle-from_part}
-use Rattle.replay.proofs.Left.{undone_none, undone_less, undone_all}
+use Rattle.replay.specs.Queues.{Queued, AreCounted, Unblocks, is_dispatched, missing_of}
+use Rattle.run_turns.specs.Parts.{IsTurn}
+use Rattle.replay.specs.Standing.{Stands, AreFree, LastOn, IsNext}
+use Rattle.run_turns.proofs.Part.{Adds, Adds-set, part_none, part_more, Legal-from_part, LowestIdle-from_part}
+use Rattle.run_turns.proofs.Left.{undone_none, undone_less, undone_all}
+use Rattle.replay.proofs.Lacking.{successors_lack, AreCounted-more}
 
 true≢false : true ≡ false → ⊥
 true≢false e = cc
@@ -173,26 +176,48 @@ module _ (table : Table) (m : ℕ) (scenario : List (ℕ × ℕ)) (is_table : Is
     pub LowestIdle-from_stands : LowestIdle table scenario schedule
     LowestIdle-from_stands = LowestIdle-from_part table m scenario is_table fits done schedule clock stands.part all_done
 
--- One turn of the loop, over the values that the function has: what `next_turn` found, with the costs and places that are written.
+-- One turn of the loop, over the values that the function has: what `next_turn` found, with the costs and places that are written,
+-- and the queues after the walk over the job's successors.
 module _ (table : Table) (m : ℕ) (scenario : List (ℕ × ℕ)) (is_table : IsTable table) (fits : Fits table scenario)
-    (old new : Queued) (schedule : List Place) (free : List ℕ) (clock turn : ℕ)
+    (old mid : Queued) (schedule : List Place) (free : List ℕ) (clock turn : ℕ)
     (stands : Stands table m scenario (is_dispatched old) schedule clock turn) (frees : AreFree table m scenario (is_dispatched old) schedule free)
-    (ends : List ℕ) (same : ends ≡ free) (job core time : ℕ) (next : IsNext table m scenario old ends clock new (job, core, time)) where
+    (counted : AreCounted table scenario (is_dispatched old) schedule old.readiness)
+    (ends : List ℕ) (same : ends ≡ free) (job core time : ℕ) (next : IsNext table m scenario old ends clock mid (job, core, time))
+    (place : ℕ) (at : place ≡ job) (cost : ℕ) (costs : cost ≡ cost_of scenario job) where
   is_next : IsTurn table m scenario (is_dispatched old) schedule clock job core time
-  is_next = next.turn schedule turn stands (subst (AreFree table m scenario (is_dispatched old) schedule) (sym same) frees)
+  is_next = next.turn schedule turn stands (subst (AreFree table m scenario (is_dispatched old) schedule) (sym same) frees) counted
 
-  adds : Adds (is_dispatched old) schedule job core time (is_dispatched new) (set schedule job (record { start = time; core = core }))
-  adds = Adds-set (is_dispatched old) schedule job core time (omega (arith, next.is_job, stands.part.one_each)) (is_dispatched new)
-      (eq-eqb (copies new job) 0 next.taken.gone) (λ i differ. ap (λ n. n == 0) (next.taken.others i differ))
+  abbrev places : List Place
+  places = set schedule place (record { start = time; core = core })
 
-  pub Stands-turned : (i : ℕ) → i ≡ job → Stands table m scenario (is_dispatched new) (set schedule i (record { start = time; core = core })) time (turn + 1)
-  Stands-turned i e =
-      subst (λ x. Stands table m scenario (is_dispatched new) (set schedule x (record { start = time; core = core })) time (turn + 1)) (sym e)
-      (Stands-more table m scenario is_table fits (is_dispatched old) schedule clock turn stands job core time is_next (is_dispatched new) (set schedule job (record { start = time; core = core })) adds)
+  adds : (done : ℕ → Bool) → ((i : ℕ) → done i ≡ is_dispatched mid i) → Adds (is_dispatched old) schedule job core time done places
+  adds done e =
+      subst (λ i. Adds (is_dispatched old) schedule job core time done (set schedule i (record { start = time; core = core }))) (sym at)
+      (Adds-set (is_dispatched old) schedule job core time (omega (arith, next.is_job, stands.part.one_each)) done
+      (e job ∙ next.taken.gone) (λ i differ. e i ∙ next.taken.others i differ))
 
-  pub AreFree-turned : (i : ℕ) → i ≡ job → (cost : ℕ) → cost ≡ cost_of scenario job →
-      AreFree table m scenario (is_dispatched new) (set schedule i (record { start = time; core = core })) (set free core (time + cost))
-  AreFree-turned i e cost f =
-      subst (λ x. AreFree table m scenario (is_dispatched new) (set schedule x (record { start = time; core = core })) (set free core (time + cost))) (sym e)
-      (subst (λ k. AreFree table m scenario (is_dispatched new) (set schedule job (record { start = time; core = core })) (set free core (time + k))) (sym f)
-      (AreFree-more table m scenario is_table fits (is_dispatched old) schedule clock turn stands job core time is_next (is_dispatched new) (set schedule job (record { start = time; core = core })) adds free frees))
+  -- each successor lacks the job
+  pub lack_turned : (j : ℕ) → count_by (λ s. s == j) (successors table job) ≤ missing_of mid.readiness j
+  lack_turned j =
+      omega (
+        arith,
+        successors_lack table scenario is_table fits (is_dispatched old) (is_dispatched mid) schedule places job core time (time + cost) is_next.can_start.waits (adds (is_dispatched mid) (λ i. refl)) (ap (λ k. time + k) costs) old.readiness counted j,
+        ap (λ xs. missing_of xs j) next.taken.readiness,
+      )
+
+  module _ (new : Queued) (walked : Unblocks table mid new (time + cost) (successors table job)) where
+    adds_new : Adds (is_dispatched old) schedule job core time (is_dispatched new) places
+    adds_new = adds (is_dispatched new) walked.same
+
+    pub Stands-turned : Stands table m scenario (is_dispatched new) places time (turn + 1)
+    Stands-turned = Stands-more table m scenario is_table fits (is_dispatched old) schedule clock turn stands job core time is_next (is_dispatched new) places adds_new
+
+    pub AreFree-turned : AreFree table m scenario (is_dispatched new) places (set free core (time + cost))
+    AreFree-turned =
+        subst (λ k. AreFree table m scenario (is_dispatched new) places (set free core (time + k))) (sym costs)
+        (AreFree-more table m scenario is_table fits (is_dispatched old) schedule clock turn stands job core time is_next (is_dispatched new) places adds_new free frees)
+
+    pub AreCounted-turned : AreCounted table scenario (is_dispatched new) places new.readiness
+    AreCounted-turned =
+        AreCounted-more table scenario is_table fits (is_dispatched old) (is_dispatched new) schedule places job core time (time + cost) is_next.can_start.waits adds_new (ap (λ k. time + k) costs) old.readiness counted
+        mid new next.taken.readiness walked

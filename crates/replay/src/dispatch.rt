@@ -1,5 +1,5 @@
 //! The dispatcher.
-ghost use Rattle.std.specs.Prelude.{◌≡◌, ◌≤◌, [], IfOk};
+ghost use Rattle.std.specs.Prelude.{◌≤◌, IfOk};
 ghost use Rattle.job_model.specs.declared.TheConstants.{MOST_CORES};
 ghost use Rattle.job_model.specs.Table.{IsTable};
 ghost use Rattle.job_model.specs.Scenario.{Fits};
@@ -12,8 +12,8 @@ use job_model::{JobNo, JobTable, Scenario};
 use run_meaning::{Place, Schedule};
 use std::alloc::{AllocError, Global};
 
-// The next dispatch: a job, its core and its start. At the earliest time at which a job waits and a
-// core is free, it takes the most urgent of those jobs and the lowest of those cores.
+// The next dispatch: a job, its core and its start. At the earliest time at which a job is ready and
+// a core is free, it takes the most urgent of those jobs and the lowest of those cores.
 fn next_turn(
     table: &JobTable,
     cores: u16,
@@ -25,7 +25,6 @@ fn next_turn(
     requires some_core { 1 ≤ cores }
     requires few_cores { cores ≤ MOST_CORES }
     requires table { IsTable table.now }
-    requires no_edges { table.now.edges ≡ [] }
     requires fits { Fits table.now scenario.now }
     requires stands { HasTurn table.now cores scenario.now queues.old free.now clock }
     ensures { IfOk result (IsNext table.now cores scenario.now queues.old free.now clock queues.new) }
@@ -39,9 +38,10 @@ fn next_turn(
 }
 
 /// The schedule of a scenario: from event to event, at the earliest time at which a job is ready and
-/// a core idle, the most urgent of those jobs starts on the lowest of those cores.
+/// a core idle, the most urgent of those jobs starts on the lowest of those cores. A job is ready once
+/// it is released and its predecessors have finished.
 ///
-/// The table has no precedence edges. It takes O(n log n + n m) steps for n jobs and m cores.
+/// It takes O((n + E) log n + n m) steps for n jobs, E precedence edges and m cores.
 pub fn replay(
     alloc: Global,
     table: &JobTable,
@@ -50,7 +50,6 @@ pub fn replay(
 ) -> Result<Schedule, AllocError>
     requires some_core { 1 ≤ cores }
     requires few_cores { cores ≤ MOST_CORES }
-    requires no_edges { table.now.edges ≡ [] }
     requires fits { Fits table.now scenario.now }
     ensures legal { IfOk result (λ schedule. Legal table.now cores scenario.now schedule) }
     ensures lowest_idle { IfOk result (λ schedule. LowestIdle table.now scenario.now schedule) }
@@ -65,6 +64,7 @@ pub fn replay(
         let finish = time + scenario.cost(job);
         places[job.0 as usize] = Place { start: time, core };
         free[core as usize] = finish;
+        queues.unblock(table, job, finish)?;
         clock = time;
     }
     Ok(Schedule { places })

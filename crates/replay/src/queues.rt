@@ -1,7 +1,8 @@
-//! The jobs that are not dispatched yet.
-ghost use Rattle.std.specs.Prelude.{◌≡◌, ℕ, ◌+◌, ◌<◌, ◌≤◌, [], length, All, IfOk, OnOk, MatchOption};
+//! The jobs that are not dispatched yet, and what they wait for.
+ghost use Rattle.std.specs.Prelude.{◌≡◌, ◌==◌, ℕ, ◌<◌, ◌≤◌, [], length, All, count_by, IfOk, OnOk, MatchOption};
 ghost use Rattle.job_model.specs.Scenario.{Fits};
-ghost use Rattle.replay.specs.Queues.{key_of, copies, AreQueued, StaysQueued, IsNextReady, Takes};
+ghost use Rattle.job_model.specs.Table.{successors};
+ghost use Rattle.replay.specs.Queues.{key_of, missing_of, HasAll, StaysQueued, IsNextReady, Takes, Counts, Unblocks};
 
 use job_model::{JobNo, JobTable, Scenario};
 use std::alloc::{AllocError, Global};
@@ -9,14 +10,23 @@ use std::cmp::Reverse;
 use std::collections::BinaryHeap;
 use std::marker::Model;
 
-/// A job that is released later: the earlier release first.
+/// A job that is ready later: the earlier time first.
 #[derive(Clone, Copy, PartialEq, Eq, PartialOrd, Ord)]
 pub struct Arrival {
     time: u64,
     no: JobNo,
 }
 
-/// A job that waits: the more urgent first.
+/// How far a job is from being ready.
+#[derive(Clone, Copy)]
+pub struct Readiness {
+    // how many of its predecessors are not dispatched
+    missing: usize,
+    // the latest of its release and of the finishes of the others
+    time: u64,
+}
+
+/// A job that waits for a core: the more urgent first.
 #[derive(Clone, Copy, PartialEq, Eq, PartialOrd, Ord)]
 pub struct Urgency {
     priority: u64,
@@ -40,11 +50,12 @@ impl Urgency {
     }
 }
 
-/// The jobs that wait, and those that are released later.
+/// The jobs that wait for a core, those that are ready later, and what each job still lacks.
 #[derive(Drop)]
 pub struct Queues {
     waiting: BinaryHeap<Reverse<Urgency>>,
     later: BinaryHeap<Reverse<Arrival>>,
+    readiness: Vec<Readiness>,
 }
 
 impl Model for Queues {
@@ -53,28 +64,40 @@ impl Model for Queues {
 
     ghost Value = { Queued };
 
-    ghost view = { λ q. record { waiting = heap_items q.waiting; later = heap_items q.later } };
+    ghost view = { λ q. record {
+      waiting = heap_items q.waiting;
+      later = heap_items q.later;
+      readiness = q.readiness.items;
+    } };
 
     ghost invariant = { λ q.
         IsHeap urgent_first (heap_items q.waiting) × IsHeap soonest_first (heap_items q.later) };
 }
 
 impl Queues {
-    /// All jobs of the table: none waits yet.
+    /// All jobs of the table: those without predecessors come when they are released.
     pub fn new(alloc: Global, table: &JobTable, scenario: &Scenario) -> Result<Queues, AllocError>
         requires { Fits table.now scenario.now }
-        ensures queued { IfOk result (AreQueued table.now scenario.now 0) }
-        ensures all { IfOk result (λ q. (j : ℕ) → j < length table.now.jobs → copies q j ≡ 1) }
+        ensures { IfOk result (HasAll table.now scenario.now) }
     {
-        let count = table.len();
-        let waiting = BinaryHeap::with_capacity(alloc, count as usize)?;
-        let mut later = BinaryHeap::with_capacity(alloc, count as usize)?;
-        for no in 0..count {
+        let count = usize::from(table.len());
+        let waiting = BinaryHeap::with_capacity(alloc, count)?;
+        let mut later = BinaryHeap::with_capacity(alloc, count)?;
+        let mut readiness = Vec::with_capacity(alloc, count)?;
+        for no in 0..table.len() {
             let no = JobNo(no);
+            let missing = table.preds(no).len();
             let time = scenario.release(no);
-            later.push(Reverse(Arrival { time, no }))?;
+            readiness.push(Readiness { missing, time })?;
+            if missing == 0 {
+                later.push(Reverse(Arrival { time, no }))?;
+            }
         }
-        Ok(Queues { waiting, later })
+        Ok(Queues {
+            waiting,
+            later,
+            readiness,
+        })
     }
 
     /// The first time from `from` on at which a job waits.
@@ -90,7 +113,7 @@ impl Queues {
         }
     }
 
-    /// Lets those wait that are released by `now`.
+    /// Lets those wait for a core that are ready by `now`.
     pub fn admit(&mut self, table: &JobTable, now: u64) -> Result<(), AllocError>
         requires { All (λ e. e.0.no < length table.now.jobs) self.old.later }
         ensures kept { OnOk result (StaysQueued table.now now self.old self.new) }
@@ -112,5 +135,35 @@ impl Queues {
     {
         let Reverse(first) = self.waiting.pop()?;
         Some(first)
+    }
+
+    // One more predecessor of the job is dispatched, and finishes then: after the last one it comes when
+    // it is ready.
+    fn count_predecessor(&mut self, no: JobNo, finish: u64) -> Result<(), AllocError>
+        requires { 1 ≤ missing_of self.old.readiness no }
+        ensures { OnOk result (Counts self.old self.new finish no) }
+    {
+        let place = usize::from(no.0);
+        let before = self.readiness[place];
+        let missing = before.missing - 1;
+        let time = before.time.max(finish);
+        self.readiness[place] = Readiness { missing, time };
+        if missing == 0 {
+            self.later.push(Reverse(Arrival { time, no }))?;
+        }
+        Ok(())
+    }
+
+    /// Counts the job, which finishes then, for its successors: those that lack no other predecessor come
+    /// when they are ready.
+    pub fn unblock(&mut self, table: &JobTable, job: JobNo, finish: u64) -> Result<(), AllocError>
+        requires job { job < length table.now.jobs }
+        requires missing { (j : ℕ) → count_by (λ s. s == j) (successors table.now job) ≤ missing_of self.old.readiness j }
+        ensures { OnOk result (Unblocks table.now self.old self.new finish (successors table.now job)) }
+    {
+        for next in table.succs(job) {
+            self.count_predecessor(*next, finish)?;
+        }
+        Ok(())
     }
 }

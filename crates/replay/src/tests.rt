@@ -1,9 +1,10 @@
 ghost use Rattle.std.specs.Prelude.{◌≤◌};
 ghost use Rattle.job_model.specs.declared.TheConstants.{MOST_CORES};
 
-use crate::{replay, runs_exist};
+use crate::replay;
 use job_model::{Job, JobTable, Scenario};
 use run_meaning::{Place, predecessors_come_earlier, starts_agree};
+use run_turns::runs_exist;
 use std::alloc::Global;
 
 // A job with room for the releases and costs of these tests.

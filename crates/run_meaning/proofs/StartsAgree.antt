@@ -13,7 +13,7 @@ use Rattle.run_meaning.specs.declared.Place.{Place}
 use Rattle.run_meaning.specs.Ready.{start_of, core_of, finish_of, ready_time, IsRunning}
 use Rattle.run_meaning.specs.Legal.{Legal, IsHeldBack}
 use Rattle.run_meaning.specs.Laws.{StartsAgree}
-use Rattle.run_meaning.proofs.Pigeonhole.{pigeonhole}
+use Rattle.job_model.proofs.Pigeonhole.{pigeonhole}
 
 true≢false : true ≡ false → ⊥
 true≢false e = cc

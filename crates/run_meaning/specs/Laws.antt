@@ -20,6 +20,12 @@ PredecessorsComeEarlier =
     (table : Table) (m : ℕ) (scenario : List (ℕ × ℕ)) (schedule : List Place) → IsTable table → Fits table scenario →
     Legal table m scenario schedule → (i j : ℕ) → j < length table.jobs → Contains (predecessors table j) i → IsTrue (starts_earlier table schedule i j)
 
+-- Two legal schedules of one scenario in which each job takes the lowest idle core are one.
+abbrev pub OneRun : Type 0
+OneRun =
+    (table : Table) (m : ℕ) (scenario : List (ℕ × ℕ)) (one other : List Place) → IsTable table → Fits table scenario →
+    Legal table m scenario one → Legal table m scenario other → LowestIdle table scenario one → LowestIdle table scenario other → one ≡ other
+
 -- Each scenario that fits has a legal schedule in which each job takes the lowest idle core.
 abbrev pub RunsExist : Type 0
 RunsExist =

@@ -1,7 +1,7 @@
 //! What a schedule is, and what it means that one is legal.
 #![tactic(auto)]
 
-ghost use Rattle.run_meaning.specs.Laws.{StartsAgree, PredecessorsComeEarlier, RunsEnd};
+ghost use Rattle.run_meaning.specs.Laws.{OneRun, PredecessorsComeEarlier, RunsEnd, StartsAgree};
 
 use std::marker::Model;
 
@@ -33,6 +33,11 @@ impl Model for Schedule {
 /// Two legal schedules of one scenario have the same starts.
 pub fn starts_agree()
     ensures { StartsAgree }
+{}
+
+/// A scenario has at most one legal schedule in which each job takes the lowest idle core.
+pub fn one_run()
+    ensures { OneRun }
 {}
 
 /// By (start, urgency) each predecessor comes earlier.

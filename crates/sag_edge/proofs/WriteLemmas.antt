@@ -54,7 +54,8 @@ whole_prefix a b x p = (length x, rw take_all_of p)
 pub none_prefix : (a b : Option (List ℕ)) (x : List ℕ) → Takes a b [] → TakesPrefix a b x
 none_prefix a b x p = (0, p)
 
-rose_on : (a b c : ℕ) → a ≤ b → Rose b c → Rose a c
+-- a count that rose later on rose
+pub rose_on : (a b c : ℕ) → a ≤ b → Rose b c → Rose a c
 rose_on a b c l r = omega arith
 
 told_none : IsSome {T = List ℕ} None → ⊥

@@ -1,19 +1,39 @@
 -- What is known of files that were accepted.
-use Rattle.std.proofs.Common.{◌≡◌, ℕ, List, [], Option, Ok, ap}
+use Rattle.std.proofs.Common.{◌≡◌, ℕ, List, [], Option, None, Some, Ok, ap, sym}
 use Rattle.sag_edge.specs.Contents.{Contents}
-use Rattle.job_model.specs.Table.{Table}
+use Rattle.job_model.specs.Table.{Table, IsTable}
 use Rattle.job_model.specs.Scenario.{Fits}
 use Rattle.sag_engine.specs.Plan.{ComesTo, file_plan}
-use Rattle.sag_engine.specs.Inputs.{JobsJudged, ScenarioJudged, jobs_plan, scenario_plan}
+use Rattle.sag_engine.specs.Inputs.{JobsJudged, PrecedenceJudged, ScenarioJudged, jobs_plan, precedence_plan, scenario_plan, table_plan}
+use Rattle.sag_engine.specs.Work.{Work, replay_plan}
+use Rattle.sag_engine.specs.Work.Work.{Replays}
 use Rattle.sag_engine.proofs.PlanLemmas.{comes_split, judged_so}
 
--- an accepted table has no precedence edges
-pub accepted_no_edges : (name : List ℕ) (m : Option Contents) (table : Table) → ComesTo (jobs_plan name) m (Ok table) → table.edges ≡ []
+-- a file that was judged and accepted
+jobs_judged : (name : List ℕ) (m : Option Contents) (table : Table) → ComesTo (jobs_plan name) m (Ok table) → (bytes : List ℕ) × JobsJudged bytes (Ok table)
 unfolding jobs_plan
-accepted_no_edges name m table h =
+jobs_judged name m table h =
     let s = comes_split (file_plan _ name _) _ m table h in
-    let j = judged_so (JobsJudged s.0) m (Ok table) s.2 in
-    ap (λ t. t.edges) j.2
+    (s.0, judged_so (JobsJudged s.0) m (Ok table) s.2)
+
+-- the table of a job file has no precedence edges
+pub accepted_no_edges : (name : List ℕ) (m : Option Contents) (table : Table) → ComesTo (jobs_plan name) m (Ok table) → table.edges ≡ []
+accepted_no_edges name m table h = ap (λ t. t.edges) (jobs_judged name m table h).1.2
+
+-- a table that comes of a table and a precedence file is one
+with_precedence : (table : Table) (prec : Option (List ℕ)) (m : Option Contents) (whole : Table) → IsTable table → ComesTo (precedence_plan table prec) m (Ok whole) → IsTable whole
+unfolding precedence_plan
+with_precedence table None m whole is_table h = let same : table ≡ whole = cc in rw (← same) is_table
+with_precedence table (Some name) m whole is_table h =
+    let s = comes_split (file_plan _ name _) _ m whole h in
+    (judged_so (PrecedenceJudged table s.0) m (Ok whole) s.2).4
+
+-- an accepted table is one
+pub accepted_table : (jobs : List ℕ) (prec : Option (List ℕ)) (m : Option Contents) (table : Table) → ComesTo (table_plan jobs prec) m (Ok table) → IsTable table
+unfolding table_plan
+accepted_table jobs prec m table h =
+    let s = comes_split (jobs_plan jobs) (λ t. precedence_plan t prec) m table h in
+    with_precedence s.0 prec m table (jobs_judged jobs m s.0 s.1).1.3 s.2
 
 -- an accepted scenario fits its table
 pub accepted_fits : (table : Table) (name : List ℕ) (m : Option Contents) (rows : List (ℕ × ℕ)) → ComesTo (scenario_plan table name) m (Ok rows) → Fits table rows
@@ -21,3 +41,24 @@ unfolding scenario_plan
 accepted_fits table name m rows h =
     let s = comes_split (file_plan _ name _) _ m rows h in
     (judged_so (ScenarioJudged table s.0) m (Ok rows) s.2).1
+
+-- what a replay comes to: the run of a scenario that fits its table, on the cores of the command
+pub record AcceptedRun (cores : ℕ) (work : Work) : Type 0 where
+  pub table : Table
+  pub rows : List (ℕ × ℕ)
+  pub is_table : IsTable table
+  pub fits : Fits table rows
+  pub work_is : work ≡ Replays table cores rows
+
+pub accepted_run : (jobs scenario : List ℕ) (prec : Option (List ℕ)) (cores : ℕ) (m : Option Contents) (work : Work)
+    → ComesTo (replay_plan jobs scenario prec cores) m (Ok work) → AcceptedRun cores work
+accepted_run jobs scenario prec cores m work h =
+    let s = comes_split (table_plan jobs prec) _ m work h in
+    let r = comes_split (scenario_plan s.0 scenario) _ m work s.2 in
+    record {
+      table = s.0;
+      rows = r.0;
+      is_table = accepted_table jobs prec m s.0 s.1;
+      fits = accepted_fits s.0 scenario m r.0 r.1;
+      work_is = let same : Replays s.0 cores r.0 ≡ work = cc in sym same;
+    }

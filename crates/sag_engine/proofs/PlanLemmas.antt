@@ -1,9 +1,9 @@
 -- What follows of calls that follow plans.
 use Rattle.std.proofs.Common.{◌≡◌, ℕ, ◌+◌, ◌<◌, ◌≤◌, inl, inr, List, length, replicate, refl, ap, ◌∙◌, arith, Option, Some, None, Result, Ok, Err, IfSome, nat_lt, cond}
 use Rattle.std.proofs.lemmas.List.{length-replicate}
-use Rattle.sag_edge.specs.Causes.{Rose}
 use Rattle.sag_edge.specs.Contents.{Contents, bytes_at}
 use Rattle.sag_edge.specs.Reading.{SeenFiles}
+use Rattle.sag_edge.proofs.WriteLemmas.{rose_on}
 use Rattle.sag_texts.specs.declared.fault.FileKind.{FileKind}
 use Rattle.sag_texts.specs.declared.fault.Fault.{Fault}
 use Rattle.sag_texts.specs.declared.fault.Fault.TheVariants.{TooLong}
@@ -38,14 +38,11 @@ reads_then (Ends (Err g)) q m a k n h r = absurd cc
 reads_then (Reads kind name go) q m a k n (bytes, t, h) r = inr (bytes, t, reads_then (go bytes) q m a k n h r)
 reads_then (Judges X Holds go) q m a k n (x, t, h) r = (x, t, reads_then (go x) q m a k n h r)
 
-pub rose_later : (a b c : ℕ) → a ≤ b → Rose b c → Rose a c
-rose_later a b c l r = omega arith
-
 end_then : {T X U Y : Type 0} (view : T → X) (show : U → Y) (p : Plan (Result X Fault)) (q : X → Plan (Result Y Fault)) (a b c : SeenFiles) (t : T) (r : Result U Halt) → b.contents ≡ a.contents → a.faults ≤ b.faults → ComesTo p a.contents (Ok (view t)) → EndsBy show (q (view t)) b c r → EndsBy show (p >>= q) a c r
 end_then view show p q a b c t (Ok u) e l h k = comes_then p q a.contents (view t) (Ok (show u)) h (rw e at k)
 end_then view show p q a b c t (Err (Refused f)) e l h k = comes_then p q a.contents (view t) (Err f) h (rw e at k)
 end_then view show p q a b c t (Err (Read kind)) e l h (rose, (name, blamed, reads)) =
-    (rose_later a.faults b.faults c.faults l rose, (name, blamed, reads_then p q a.contents (view t) kind name h (rw e at reads)))
+    (rose_on a.faults b.faults c.faults l rose, (name, blamed, reads_then p q a.contents (view t) kind name h (rw e at reads)))
 end_then view show p q a b c t (Err Usage) e l h k = absurd k
 end_then view show p q a b c t (Err Write) e l h k = absurd k
 end_then view show p q a b c t (Err Memory) e l h k = tt

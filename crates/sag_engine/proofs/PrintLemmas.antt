@@ -2,7 +2,7 @@
 use Rattle.std.proofs.Common.{ℕ, ◌≤◌, ◌++◌, inl, inr, List, [], subst, arith, Result, Ok, Err, append-nil}
 use Rattle.sag_edge.specs.Reading.{SeenFiles}
 use Rattle.sag_edge.specs.Writing.{SeenSink}
-use Rattle.sag_edge.proofs.WriteLemmas.{takes_more, takes_none, prefix_on}
+use Rattle.sag_edge.proofs.WriteLemmas.{takes_more, takes_none, prefix_on, rose_on}
 use Rattle.sag_texts.specs.declared.fault.Fault.{Fault}
 use Rattle.sag_engine.specs.declared.ends.Verdict.{Verdict}
 use Rattle.sag_engine.specs.declared.ends.Halt.{Halt}
@@ -10,11 +10,10 @@ use Rattle.sag_engine.specs.declared.ends.Halt.TheVariants.{Usage, Refused, Read
 use Rattle.sag_engine.specs.Plan.{Plan}
 use Rattle.sag_engine.specs.Work.{Work, Reply, Replies}
 use Rattle.sag_engine.specs.Ends.{Follows, EndsWriting, Writes, Prints, EndsWork, Runs, Gives}
-use Rattle.sag_engine.proofs.PlanLemmas.{rose_later}
 
 end_on : {T U : Type 0} (a b c : SeenSink) (x y : List ℕ) (t : T) (r : Result U Halt) → a.faults ≤ b.faults → EndsWriting x a b (Ok t) → EndsWriting y b c r → EndsWriting (x ++ y) a c r
 end_on a b c x y t (Ok u) l d k = takes_more a.taken b.taken c.taken x y d k
-end_on a b c x y t (Err Write) l d k = (rose_later a.faults b.faults c.faults l k.0, prefix_on a.taken b.taken c.taken x y d k.1)
+end_on a b c x y t (Err Write) l d k = (rose_on a.faults b.faults c.faults l k.0, prefix_on a.taken b.taken c.taken x y d k.1)
 end_on a b c x y t (Err Memory) l d k = prefix_on a.taken b.taken c.taken x y d k
 end_on a b c x y t (Err Usage) l d k = absurd k
 end_on a b c x y t (Err (Refused fault)) l d k = absurd k

@@ -1,21 +1,43 @@
 -- From how the work ended to what the top call promises.
-use Rattle.std.proofs.Common.{◌≡◌, ℕ, inl, inr, List, [], refl, ap, Result, Ok, Err, IsTrue}
+use Rattle.std.proofs.Common.{◌≡◌, ◌≤◌, ◌∷◌, lit≤, None, Some, ℕ, inl, inr, List, [], Option, refl, ap, Result, Ok, Err, IsTrue}
 use Rattle.sag_edge.specs.Reading.{SeenFiles}
 use Rattle.sag_edge.specs.Writing.{SeenSink, Takes, Puts}
 use Rattle.sag_edge.proofs.WriteLemmas.{takes_none, whole_prefix}
 use Rattle.sag_texts.specs.declared.fault.FileKind.{FileKind}
 use Rattle.sag_words.specs.declared.Command.{Command}
-use Rattle.sag_words.specs.Words.{WordsOf}
+use Rattle.sag_words.specs.declared.Command.TheVariants.{Replay}
+use Rattle.sag_words.specs.Words.{Asks, WordsOf}
+use Rattle.sag_words.specs.Numbers.{GivesCores}
+use Rattle.job_model.specs.declared.TheConstants.{MOST_CORES}
+use Rattle.sag_words.proofs.OneCommand.{one_command}
+use Rattle.run_meaning.proofs.OneRun.{one_run}
+use Rattle.run_meaning.proofs.StartsAgree.{starts_agree}
 use Rattle.sag_engine.specs.declared.ends.Verdict.{Verdict}
 use Rattle.sag_engine.specs.declared.ends.Verdict.TheVariants.{Done}
 use Rattle.sag_engine.specs.declared.ends.Halt.{Halt}
 use Rattle.sag_engine.specs.declared.ends.Halt.TheVariants.{Usage, Refused, Read, Write, Memory}
 use Rattle.sag_engine.specs.declared.status.Status.TheVariants as statuses
-use Rattle.sag_engine.specs.Work.{command_plan}
+use Rattle.sag_engine.specs.Work.{HasCores, command_plan, replay_plan}
 use Rattle.sag_engine.specs.Ends.{Works, EndsWords, RunsCommand, Runs, AsksNothing, verdict_status, end_status, end_text}
-use Rattle.sag_engine.specs.Promises.{IsDone, Answers, ReadCause, HasReadCause, HasWriteCause, KeepsPrefix, Told, Explains, ExplainsFault}
+use Rattle.sag_engine.specs.Promises.{IsDone, Answers, ReadCause, HasReadCause, HasWriteCause, KeepsPrefix, PrintsRun, PrintsRuns, Told, Explains, ExplainsFault}
 use Rattle.sag_engine.specs.Promises.Outcome.{NoCommand, Refusal, Output}
 use Rattle.sag_engine.proofs.FileLemmas.{command_reads}
+use Rattle.sag_engine.proofs.InputLemmas.{accepted_run}
+
+-- the number of cores that an option gives
+cores_given : (text : Option (List ℕ)) (cores : ℕ) → GivesCores text cores → (1 ≤ cores) × (cores ≤ MOST_CORES)
+cores_given None cores given = rw given (lit≤ tt, lit≤ tt)
+cores_given (Some text) cores given = (given.1, given.2)
+
+-- the words ask for a number of cores that a schedule may have
+asked_of : (name : List ℕ) (rest : List (List ℕ)) (command : Command) → Asks name rest command → HasCores command
+unfolding Asks
+asked_of name rest (Replay jobs scenario prec cores) asked = cores_given _ cores asked.2.3
+
+pub asked_cores : (words : List (List ℕ)) (command : Command) → WordsOf words command → HasCores command
+asked_cores [] command asked = absurd asked
+asked_cores (program ∷ []) command asked = absurd asked
+asked_cores (program ∷ name ∷ rest) command asked = asked_of name rest command asked
 
 -- finished work is no fault, and no want of memory
 no_read_fault : (v : Verdict) → verdict_status v ≡ statuses.ReadFault → ⊥
@@ -27,7 +49,40 @@ no_write_fault Done e = cc
 no_memory : (v : Verdict) → verdict_status v ≡ statuses.Memory → ⊥
 no_memory Done e = cc
 
+-- the run that a replay printed
+prints_run : (jobs scenario : List ℕ) (prec : Option (List ℕ)) (cores : ℕ) (f f' : SeenFiles) (o o' : SeenSink) (verdict : Verdict)
+    → Runs (replay_plan jobs scenario prec cores) f f' o o' (Ok verdict) → PrintsRun jobs scenario prec cores f o o'
+prints_run jobs scenario prec cores f f' o o' verdict w =
+    let given = w.end.1 in
+    let run = accepted_run jobs scenario prec cores f.contents given.work given.comes in
+    let replies = rw run.work_is at given.replies in
+    let printed = w.end.3 in
+    record {
+      table = run.table;
+      rows = run.rows;
+      comes = rw run.work_is at given.comes;
+      is_table = run.is_table;
+      fits = run.fits;
+      schedule = replies.0;
+      legal = replies.1;
+      lowest_idle = replies.2;
+      same_starts = λ other legal j within. starts_agree run.table cores run.rows other replies.0 run.is_table run.fits legal replies.1 j within;
+      one_run = λ other legal lowest. one_run run.table cores run.rows other replies.0 run.is_table run.fits legal replies.1 lowest replies.2;
+      printed = rw replies.3 at printed;
+    }
+
 module _ (words : List (List ℕ)) (f f' : SeenFiles) (o o' : SeenSink) where
+  prints_runs : (r : Result Verdict Halt) → EndsWords words f f' o o' r → PrintsRuns words f o o' (end_status r)
+  prints_runs (Ok verdict) w is = λ jobs scenario prec cores asked.
+      let same = one_command words w.command (Replay jobs scenario prec cores) w.asked asked in
+      let runs = rw same at w.runs in
+      prints_run jobs scenario prec cores f f' o o' verdict runs
+  prints_runs (Err Usage) w is = absurd cc
+  prints_runs (Err (Refused fault)) w is = absurd cc
+  prints_runs (Err (Read kind)) w is = absurd cc
+  prints_runs (Err Write) w is = absurd cc
+  prints_runs (Err Memory) w is = absurd cc
+
   answers : (r : Result Verdict Halt) → EndsWords words f f' o o' r → Answers words f o o' (end_status r)
   answers (Ok verdict) w is =
       let e = w.runs.end in
@@ -153,6 +208,9 @@ works_memory words f o = record { end = inl (takes_none o.taken) }
 module _ (words : List (List ℕ)) {f f' : SeenFiles} {o o' : SeenSink} {r : Result Verdict Halt} (w : Works words f f' o o' r) where
   pub answers_by : Answers words f o o' (end_status r)
   answers_by = answers words f f' o o' r w.end
+
+  pub runs_by : PrintsRuns words f o o' (end_status r)
+  runs_by = prints_runs words f f' o o' r w.end
 
   pub finished_by : IsDone (end_status r) → IsTrue o'.finished
   finished_by = finished words f f' o o' r w.end

@@ -2,9 +2,9 @@
 --     texts words                  the words as lists of bytes
 --     Outcome                      what the words come to: no command, a refusal, or a reply
 --     ComesOut words m outcome     over the files m the words come to this
---     Answers .. Told              the clauses
-use Rattle.std.specs.Prelude.{ℕ, ◌≡◌, ◌⊎◌, List, [], String, map, string_bytes, Ok, Err, Some, ⊤}
-use Rattle.std.specs.declared.option.Option.{Option}
+--     PrintsRun, PrintsRuns        the run that a replay printed
+--     Answers .. Told              the other clauses
+use Rattle.std.specs.Prelude.{ℕ, ◌≡◌, ◌<◌, ◌⊎◌, List, [], String, length, map, string_bytes, Ok, Err, Option, Some, ⊤}
 use Rattle.sag_edge.specs.Causes.{Rose}
 use Rattle.sag_edge.specs.Contents.{Contents}
 use Rattle.sag_edge.specs.Reading.{SeenFiles}
@@ -14,11 +14,19 @@ use Rattle.sag_texts.specs.declared.fault.Fault.{Fault}
 use Rattle.sag_texts.specs.declared.fault.Fault.TheVariants as faults
 use Rattle.sag_texts.specs.FaultTexts.{fault_text}
 use Rattle.sag_words.specs.declared.Command.{Command}
+use Rattle.sag_words.specs.declared.Command.TheVariants as commands
 use Rattle.sag_words.specs.Words.{WordsOf}
+use Rattle.job_model.specs.Scenario.{Fits}
+use Rattle.job_model.specs.Table.{IsTable, Table}
+use Rattle.run_meaning.specs.declared.Place.{Place}
+use Rattle.run_meaning.specs.Legal.{Legal, LowestIdle}
+use Rattle.run_meaning.specs.Ready.{start_of}
+use Rattle.replay.specs.ScheduleText.{schedule_text}
 use Rattle.sag_engine.specs.declared.status.Status.{Status}
 use Rattle.sag_engine.specs.declared.status.Status.TheVariants as statuses
 use Rattle.sag_engine.specs.Plan.{ComesTo, ReadsNext}
-use Rattle.sag_engine.specs.Work.{Work, Reply, command_plan, files_of, IsAmongFiles}
+use Rattle.sag_engine.specs.Work.{Work, Reply, command_plan, replay_plan, files_of, IsAmongFiles}
+use Rattle.sag_engine.specs.Work.Work.{Replays}
 use Rattle.sag_engine.specs.Ends.{Gives, AsksNothing, verdict_status}
 
 -- the words as lists of bytes
@@ -97,6 +105,29 @@ HasWriteCause words files out out' status = status ≡ statuses.WriteFault → R
 abbrev pub KeepsPrefix : List (List ℕ) → SeenFiles → SeenSink → SeenSink → Type 0
 KeepsPrefix words files out out' = Takes out.taken out'.taken []
     ⊎ ((reply : Reply) × ComesOut words files.contents (Output reply) × TakesPrefix out.taken out'.taken reply.bytes)
+
+-- The run of the scenario that the files give was printed: a schedule that is legal, with each job on the lowest idle core.
+-- Every schedule that is legal for this scenario on these cores has the same starts, and with each job on the lowest idle core
+-- it is this one.
+pub record PrintsRun (jobs scenario : List ℕ) (prec : Option (List ℕ)) (cores : ℕ) (files : SeenFiles) (out out' : SeenSink) : Type 0 where
+  pub table : Table
+  -- the release and the cost of each job
+  pub rows : List (ℕ × ℕ)
+  pub comes : ComesTo (replay_plan jobs scenario prec cores) files.contents (Ok (Replays table cores rows))
+  pub is_table : IsTable table
+  pub fits : Fits table rows
+  pub schedule : List Place
+  pub legal : Legal table cores rows schedule
+  pub lowest_idle : LowestIdle table rows schedule
+  pub same_starts : (other : List Place) → Legal table cores rows other
+      → (j : ℕ) → j < length table.jobs → start_of other j ≡ start_of schedule j
+  pub one_run : (other : List Place) → Legal table cores rows other → LowestIdle table rows other → other ≡ schedule
+  pub printed : Takes out.taken out'.taken (schedule_text table rows schedule)
+
+-- where the words ask for a replay and it was done, the run of its scenario was printed
+abbrev pub PrintsRuns : List (List ℕ) → SeenFiles → SeenSink → SeenSink → Status → Type 0
+PrintsRuns words files out out' status = status ≡ statuses.Ok → (jobs scenario : List ℕ) (prec : Option (List ℕ)) (cores : ℕ)
+    → WordsOf words (commands.Replay jobs scenario prec cores) → PrintsRun jobs scenario prec cores files out out'
 
 -- these bytes went to the errors, or the first of them where a fault was counted
 pub record Told (text : List ℕ) (old new : SeenSink) : Type 0 where

@@ -1,17 +1,17 @@
 // The files of the subject, read and judged.
 
-ghost use Rattle.std.specs.Prelude.{◌≡◌, ℕ, Err, List};
+ghost use Rattle.std.specs.Prelude.{◌≡◌, ℕ, Err, List, []};
 ghost use Rattle.sag_texts.specs.FaultTexts.{HasText};
-ghost use Rattle.sag_engine.specs.Inputs.{IsOfTable, JobsJudged, ScenarioJudged, jobs_plan, scenario_plan, told_fault};
+ghost use Rattle.sag_engine.specs.Inputs.{IsOfTable, JobsJudged, PrecedenceJudged, ScenarioJudged, jobs_plan, precedence_plan, scenario_plan, table_plan, told_fault};
 ghost use Rattle.sag_engine.specs.Ends.{Follows, Judged};
 
 use crate::ends::{Halt, Refusal};
 use crate::fetch::{MOST_FILE_BYTES, fetch};
 use job_csv::{CsvFault, read_jobs};
-use job_model::{JobTable, Scenario, TableFault};
+use job_model::{EdgeFault, JobTable, Scenario, TableFault};
 use sag_edge::{FileName, Files};
 use sag_texts::{Fault, FileKind};
-use side_csv::{SideFault, read_scenario};
+use side_csv::{SideFault, read_edges, read_scenario};
 use std::alloc::Global;
 
 // Stops at a fault that has a text.
@@ -35,6 +35,23 @@ fn table_of(alloc: Global, bytes: &[u8]) -> Result<JobTable, Halt>
         Ok(table) => Ok(table),
         Err(TableFault::Memory) => Err(Halt::Memory),
         Err(fault) => refused(Fault::Table(fault)),
+    }
+}
+
+// The table with the edges of a precedence file.
+fn with_precedence(alloc: Global, table: JobTable, bytes: &[u8]) -> Result<JobTable, Halt>
+    requires { table.edges ≡ [] }
+    ensures { Judged (λ table. table) (PrecedenceJudged table bytes.now) result }
+{
+    let edges = match read_edges(alloc, bytes, &table) {
+        Ok(edges) => edges,
+        Err(SideFault::Memory) => return Err(Halt::Memory),
+        Err(fault) => return refused(Fault::Side(FileKind::Precedence, fault)),
+    };
+    match table.with_edges(alloc, &edges) {
+        Ok(table) => Ok(table),
+        Err((_, EdgeFault::Memory)) => Err(Halt::Memory),
+        Err((_, fault)) => refused(Fault::Edge(fault)),
     }
 }
 
@@ -63,16 +80,43 @@ fn scenario_of(alloc: Global, bytes: &[u8], table: &JobTable) -> Result<Scenario
     }
 }
 
-/// Reads the job file.
-pub(crate) fn read_jobs_file<F: Files>(
-    alloc: Global,
-    files: &mut F,
-    name: FileName,
-) -> Result<JobTable, Halt>
+// Reads the job file.
+fn read_jobs_file<F: Files>(alloc: Global, files: &mut F, name: FileName) -> Result<JobTable, Halt>
     ensures { Follows (λ table. table) (jobs_plan name) (F.seen files.old) (F.seen files.new) result }
 {
     let bytes = fetch(alloc, files, FileKind::Jobs, name, MOST_FILE_BYTES)?;
     table_of(alloc, &bytes)
+}
+
+// Reads the precedence file of a table, where one is named.
+fn read_precedence_file<F: Files>(
+    alloc: Global,
+    files: &mut F,
+    table: JobTable,
+    name: Option<FileName>,
+) -> Result<JobTable, Halt>
+    requires { table.edges ≡ [] }
+    ensures { Follows (λ table. table) (precedence_plan table name)
+        (F.seen files.old) (F.seen files.new) result }
+{
+    let Some(name) = name else {
+        return Ok(table);
+    };
+    let bytes = fetch(alloc, files, FileKind::Precedence, name, MOST_FILE_BYTES)?;
+    with_precedence(alloc, table, &bytes)
+}
+
+/// Reads the job file, and then the precedence file where one is named.
+pub(crate) fn read_table<F: Files>(
+    alloc: Global,
+    files: &mut F,
+    jobs: FileName,
+    prec: Option<FileName>,
+) -> Result<JobTable, Halt>
+    ensures { Follows (λ table. table) (table_plan jobs prec) (F.seen files.old) (F.seen files.new) result }
+{
+    let table = read_jobs_file(alloc, files, jobs)?;
+    read_precedence_file(alloc, files, table, prec)
 }
 
 /// Reads the scenario file of a table.

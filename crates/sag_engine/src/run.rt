@@ -2,9 +2,9 @@
 
 ghost use Rattle.std.specs.Prelude.{◌≡◌, ℕ, List, [], IsTrue};
 ghost use Rattle.sag_edge.specs.Writing.{Takes};
-ghost use Rattle.sag_engine.specs.Work.{command_plan};
+ghost use Rattle.sag_engine.specs.Work.{HasCores, command_plan};
 ghost use Rattle.sag_engine.specs.Ends.{Runs, Works, end_status, end_text};
-ghost use Rattle.sag_engine.specs.Promises.{Answers, ExplainsFault, HasReadCause, Explains, HasWriteCause, IsDone, KeepsPrefix, Told, texts};
+ghost use Rattle.sag_engine.specs.Promises.{Answers, ExplainsFault, HasReadCause, Explains, HasWriteCause, IsDone, KeepsPrefix, PrintsRuns, Told, texts};
 
 use crate::command_replay::run_replay;
 use crate::ends::{Halt, Verdict};
@@ -21,11 +21,17 @@ fn run_command<F: Files, O: Sink>(
     files: &mut F,
     out: &mut O,
 ) -> Result<Verdict, Halt>
+    requires { HasCores command }
     ensures { Runs (command_plan command) (F.seen files.old) (F.seen files.new)
         (O.seen out.old) (O.seen out.new) result }
 {
     match command {
-        Command::Replay { jobs, scenario } => run_replay(alloc, files, out, jobs, scenario),
+        Command::Replay {
+            jobs,
+            scenario,
+            prec,
+            cores,
+        } => run_replay(alloc, files, out, jobs, scenario, prec, cores),
     }
 }
 
@@ -95,6 +101,7 @@ pub fn sag_run<F: Files, O: Sink, E: Sink>(
     err: &mut E,
 ) -> Status
     ensures answer { Answers (texts words.now) (F.seen files.old) (O.seen out.old) (O.seen out.new) result }
+    ensures runs { PrintsRuns (texts words.now) (F.seen files.old) (O.seen out.old) (O.seen out.new) result }
     ensures finished { IsDone result → IsTrue (O.seen out.new).finished }
     ensures read_fault { HasReadCause (texts words.now) (F.seen files.old) (F.seen files.new) result }
     ensures none_on_read_fault { result ≡ Status.ReadFault → Takes (O.seen out.old).taken (O.seen out.new).taken [] }

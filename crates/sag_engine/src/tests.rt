@@ -18,21 +18,21 @@ fn words_of(alloc: Global, words: &[&str]) -> Result<Vec<String>, AllocError> {
     Ok(list)
 }
 
-// The job file J and the scenario file S.
+// Files of these names and texts.
 fn files_of(
     alloc: Global,
-    jobs: &[u8],
-    scenario: &[u8],
+    files: &[(&str, &str)],
 ) -> Result<Vec<(FileName, FileBytes)>, AllocError> {
-    let mut files = Vec::new(alloc);
-    for (name, bytes) in [("J", jobs), ("S", scenario)] {
+    let mut list = Vec::new(alloc);
+    for (name, text) in files {
         let name = FileName::from_text(alloc, name)?;
-        files.push((name, FileBytes::from_vec(Vec::from_slice(alloc, bytes)?)))?;
+        let bytes = Vec::from_slice(alloc, text.as_bytes())?;
+        list.push((name, FileBytes::from_vec(bytes)))?;
     }
-    Ok(files)
+    Ok(list)
 }
 
-// What a run of `sag replay J S` comes to.
+// What a run of `sag` comes to.
 #[derive(Drop)]
 struct Run {
     status: Status,
@@ -40,14 +40,29 @@ struct Run {
     err: MemSink,
 }
 
-// Runs `sag replay J S` over files that are read 16 bytes at a time.
-fn replay(alloc: Global, jobs: &[u8], scenario: &[u8]) -> Result<Run, AllocError> {
-    let words = words_of(alloc, &["sag", "replay", "J", "S"])?;
-    let mut files = MemFiles::new(files_of(alloc, jobs, scenario)?, 16, Vec::new(alloc));
+// Runs `sag` over files that are read 16 bytes at a time, where these reads fail: 0 is a file's beginning.
+fn run_sag(
+    alloc: Global,
+    words: &[&str],
+    files: &[(&str, &str)],
+    faults: &[(&str, u64)],
+) -> Result<Run, AllocError> {
+    let words = words_of(alloc, words)?;
+    let mut failing = Vec::new(alloc);
+    for (name, read) in faults {
+        failing.push((FileName::from_text(alloc, name)?, *read))?;
+    }
+    let mut files = MemFiles::new(files_of(alloc, files)?, 16, failing);
     let mut out = MemSink::new(alloc, 1_048_576, 10, Vec::new(alloc))?;
     let mut err = MemSink::new(alloc, 1_048_576, 10, Vec::new(alloc))?;
     let status = sag_run(alloc, &words, &mut files, &mut out, &mut err);
     Ok(Run { status, out, err })
+}
+
+// Runs `sag replay J S`.
+fn replay(alloc: Global, jobs: &str, scenario: &str) -> Result<Run, AllocError> {
+    let files = [("J", jobs), ("S", scenario)];
+    run_sag(alloc, &["sag", "replay", "J", "S"], &files, &[])
 }
 
 #[test]
@@ -70,7 +85,7 @@ fn prints_schedules(rt: HostRuntime) -> Result<(), Fail> {
         (late, "h\n1,1,281474976710655,1\n", at_last),
         ("h", "h", "Task ID,Job ID,Start,Finish,Core\n"),
     ] {
-        let run = replay(rt.alloc(), jobs.as_bytes(), scenario.as_bytes())?;
+        let run = replay(rt.alloc(), jobs, scenario)?;
         assert_eq!(rt; run.status, Status::Ok, "at {jobs}");
         assert_eq!(rt; run.out.bytes(), schedule.as_bytes(), "at {jobs}");
         assert_eq!(rt; run.err.bytes(), b"".as_slice(), "at {jobs}");
@@ -154,7 +169,7 @@ fn names_the_first_refusal(rt: HostRuntime) -> Result<(), Fail> {
             "refused scenario row 1 column 4 is no number\n",
         ),
     ] {
-        let run = replay(rt.alloc(), jobs.as_bytes(), scenario.as_bytes())?;
+        let run = replay(rt.alloc(), jobs, scenario)?;
         assert_eq!(rt; run.status, Status::Refused, "at {text}");
         assert_eq!(rt; run.err.bytes(), text.as_bytes(), "at {text}");
         assert_eq!(rt; run.out.bytes(), b"".as_slice(), "at {text}");
@@ -162,33 +177,146 @@ fn names_the_first_refusal(rt: HostRuntime) -> Result<(), Fail> {
     Ok(())
 }
 
-// Runs `sag replay J S`, where that read of the named file fails: 0 is its beginning.
-fn fail_read(alloc: Global, name: &str, read: u64) -> Result<Run, AllocError> {
-    let words = words_of(alloc, &["sag", "replay", "J", "S"])?;
-    let mut faults = Vec::new(alloc);
-    faults.push((FileName::from_text(alloc, name)?, read))?;
-    let files = files_of(alloc, JOBS.as_bytes(), SCENARIO.as_bytes())?;
-    let mut files = MemFiles::new(files, 16, faults);
-    let mut out = MemSink::new(alloc, 1_048_576, 10, Vec::new(alloc))?;
-    let mut err = MemSink::new(alloc, 1_048_576, 10, Vec::new(alloc))?;
-    let status = sag_run(alloc, &words, &mut files, &mut out, &mut err);
-    Ok(Run { status, out, err })
+// Three jobs: without precedence, the third starts on the second core when the second finishes.
+const THREE_JOBS: &str = "h\n1,1,0,0,2,4,10,1\n2,1,0,0,1,1,10,2\n3,1,0,0,1,2,6,3\n";
+
+const THREE_COSTS: &str = "h\n1,1,0,4\n2,1,0,1\n3,1,0,2\n";
+
+// Runs `sag replay J S --prec P` over the three jobs on so many cores.
+fn replay_three(alloc: Global, prec: &str, cores: &str) -> Result<Run, AllocError> {
+    let words = ["sag", "replay", "J", "S", "--prec", "P", "--cores", cores];
+    let files = [("J", THREE_JOBS), ("P", prec), ("S", THREE_COSTS)];
+    run_sag(alloc, &words, &files, &[])
+}
+
+#[test]
+fn runs_under_precedence(rt: HostRuntime) -> Result<(), Fail> {
+    let after_first = "Task ID,Job ID,Start,Finish,Core\n1,1,0,4,0\n2,1,0,1,1\n3,1,4,6,0\n";
+    let on_one = "Task ID,Job ID,Start,Finish,Core\n1,1,0,4,0\n2,1,4,5,0\n3,1,5,7,0\n";
+    let before_first = "Task ID,Job ID,Start,Finish,Core\n2,1,0,1,0\n3,1,0,2,1\n1,1,2,6,0\n";
+    let free = "Task ID,Job ID,Start,Finish,Core\n1,1,0,4,0\n2,1,0,1,1\n3,1,1,3,1\n";
+    for (prec, cores, schedule) in [
+        ("h\n1,1,3,1\n", "2", after_first),
+        ("h\n1,1,3,1\n1,1,3,1\n", "2", after_first),
+        ("h\n1,1,3,1\n", "1", on_one),
+        ("h\n3,1,1,1\n", "64", before_first),
+        // A heading alone leaves the table without edges.
+        ("h", "2", free),
+    ] {
+        let run = replay_three(rt.alloc(), prec, cores)?;
+        assert_eq!(rt; run.status, Status::Ok, "at {prec} {cores}");
+        assert_eq!(rt; run.out.bytes(), schedule.as_bytes(), "at {prec} {cores}");
+        assert_eq!(rt; run.err.bytes(), b"".as_slice(), "at {prec} {cores}");
+    }
+    Ok(())
+}
+
+#[test]
+fn names_the_first_refusal_of_precedence(rt: HostRuntime) -> Result<(), Fail> {
+    for (prec, text) in [
+        ("", "refused precedence no heading\n"),
+        ("h\n1,1,2\n", "refused precedence row 1 has 3 fields\n"),
+        // The rules of CSV come first, then jobs that are none, and then rows in their order.
+        (
+            "h\n1,1,1,1\n9,1,2,1\n1,1,2,x\n",
+            "refused precedence row 3 column 4 is no number\n",
+        ),
+        (
+            "h\n1,1,1,1\n1,1,9,1\n9,1,9,1\n",
+            "refused precedence row 2 column 3 names no job\n",
+        ),
+        (
+            "h\n9,1,9,1\n",
+            "refused precedence row 1 column 1 names no job\n",
+        ),
+        (
+            "h\n1,1,1,1\n1,1,2,1\n2,1,1,1\n",
+            "refused precedence row 1 names one job twice\n",
+        ),
+        (
+            "h\n1,1,2,1\n2,1,3,1\n1,1,2,1\n3,1,1,1\n3,1,3,1\n",
+            "refused precedence row 4 closes a cycle\n",
+        ),
+    ] {
+        let run = replay_three(rt.alloc(), prec, "2")?;
+        assert_eq!(rt; run.status, Status::Refused, "at {text}");
+        assert_eq!(rt; run.err.bytes(), text.as_bytes(), "at {text}");
+        assert_eq!(rt; run.out.bytes(), b"".as_slice(), "at {text}");
+    }
+    Ok(())
+}
+
+#[test]
+fn counts_repeated_rows_of_precedence(rt: HostRuntime) -> Result<(), Fail> {
+    let mut prec = String::from_str(rt.alloc(), "h\n1,1,1,1\n")?;
+    for _ in 0..65_535 {
+        prec.push_str("1,1,3,1\n")?;
+    }
+    let run = replay_three(rt.alloc(), prec.as_str(), "2")?;
+    assert_eq!(rt; run.status, Status::Refused);
+    assert_eq!(rt;
+        run.err.bytes(),
+        b"refused precedence row 1 names one job twice\n".as_slice()
+    );
+    prec.push_str("1,1,3,1\n")?;
+    let run = replay_three(rt.alloc(), prec.as_str(), "2")?;
+    assert_eq!(rt; run.status, Status::Refused);
+    assert_eq!(rt;
+        run.err.bytes(),
+        b"refused precedence too many rows\n".as_slice()
+    );
+    Ok(())
+}
+
+#[test]
+fn judges_each_file_before_the_next(rt: HostRuntime) -> Result<(), Fail> {
+    let words = ["sag", "replay", "J", "S", "--prec", "P"];
+    let unread = [("P", 0), ("S", 0)];
+    for (jobs, prec, faults, text) in [
+        (
+            "h\n1",
+            "h",
+            unread.as_slice(),
+            "refused jobs row 1 has 1 fields\n",
+        ),
+        (
+            JOBS,
+            "h\n1",
+            &unread[1..],
+            "refused precedence row 1 has 1 fields\n",
+        ),
+        (
+            JOBS,
+            "h\n1,1,2,1\n2,1,1,1\n",
+            &unread[1..],
+            "refused precedence row 2 closes a cycle\n",
+        ),
+    ] {
+        let files = [("J", jobs), ("P", prec), ("S", SCENARIO)];
+        let run = run_sag(rt.alloc(), &words, &files, faults)?;
+        assert_eq!(rt; run.status, Status::Refused, "at {text}");
+        assert_eq!(rt; run.err.bytes(), text.as_bytes(), "at {text}");
+    }
+    Ok(())
 }
 
 #[test]
 fn tells_which_file_cannot_be_read(rt: HostRuntime) -> Result<(), Fail> {
-    // 34 bytes of jobs and 18 of a scenario, 16 at a time, and the end: four reads and three
+    let words = ["sag", "replay", "J", "S", "--prec", "P"];
+    let files = [("J", JOBS), ("P", "h\n1,1,2,1\n"), ("S", SCENARIO)];
+    // 34 bytes of jobs, 10 of precedence and 18 of a scenario, 16 at a time, and the end: four reads, two and three
     for (name, reads, text) in [
         ("J", 4, "cannot read jobs\n"),
+        ("P", 2, "cannot read precedence\n"),
         ("S", 3, "cannot read scenario\n"),
     ] {
         for read in 0..=reads {
-            let run = fail_read(rt.alloc(), name, read)?;
+            let run = run_sag(rt.alloc(), &words, &files, &[(name, read)])?;
             assert_eq!(rt; run.status, Status::ReadFault, "at {name} {read}");
             assert_eq!(rt; run.out.bytes(), b"".as_slice(), "at {name} {read}");
             assert_eq!(rt; run.err.bytes(), text.as_bytes(), "at {name} {read}");
         }
-        let run = fail_read(rt.alloc(), name, reads + 1)?;
+        let run = run_sag(rt.alloc(), &words, &files, &[(name, reads + 1)])?;
         assert_eq!(rt; run.status, Status::Ok, "at {name}");
     }
     Ok(())
@@ -196,15 +324,25 @@ fn tells_which_file_cannot_be_read(rt: HostRuntime) -> Result<(), Fail> {
 
 #[test]
 fn tells_that_a_file_is_not_held(rt: HostRuntime) -> Result<(), Fail> {
-    let alloc = rt.alloc();
-    let words = words_of(alloc, &["sag", "replay", "nowhere", "S"])?;
-    let files = files_of(alloc, JOBS.as_bytes(), SCENARIO.as_bytes())?;
-    let mut files = MemFiles::new(files, 16, Vec::new(alloc));
-    let mut out = MemSink::new(alloc, 100, 10, Vec::new(alloc))?;
-    let mut err = MemSink::new(alloc, 100, 10, Vec::new(alloc))?;
-    let status = sag_run(alloc, &words, &mut files, &mut out, &mut err);
-    assert_eq!(rt; status, Status::ReadFault);
-    assert_eq!(rt; err.bytes(), b"cannot read jobs\n".as_slice());
+    for (words, text) in [
+        (
+            ["sag", "replay", "nowhere", "S", "--prec=P"],
+            "cannot read jobs\n",
+        ),
+        (
+            ["sag", "replay", "J", "nowhere", "--prec=P"],
+            "cannot read scenario\n",
+        ),
+        (
+            ["sag", "replay", "J", "nowhere", "--prec=nowhere"],
+            "cannot read precedence\n",
+        ),
+    ] {
+        let files = [("J", JOBS), ("P", "h"), ("S", SCENARIO)];
+        let run = run_sag(rt.alloc(), &words, &files, &[])?;
+        assert_eq!(rt; run.status, Status::ReadFault, "at {text}");
+        assert_eq!(rt; run.err.bytes(), text.as_bytes(), "at {text}");
+    }
     Ok(())
 }
 
@@ -214,7 +352,7 @@ fn writes_a_prefix_before_a_fault(rt: HostRuntime) -> Result<(), Fail> {
     let words = words_of(alloc, &["sag", "replay", "J", "S"])?;
     // 53 bytes, 10 at a time, and the end: seven calls
     for (call, taken) in [(1, 0), (2, 10), (3, 20), (4, 30), (5, 40), (6, 50), (7, 53)] {
-        let files = files_of(alloc, JOBS.as_bytes(), SCENARIO.as_bytes())?;
+        let files = files_of(alloc, &[("J", JOBS), ("S", SCENARIO)])?;
         let mut files = MemFiles::new(files, 16, Vec::new(alloc));
         let mut faults = Vec::new(alloc);
         faults.push(call)?;
@@ -236,7 +374,7 @@ fn writes_a_prefix_before_a_fault(rt: HostRuntime) -> Result<(), Fail> {
 fn never_fails_over_sure_files(rt: HostRuntime) -> Result<(), Fail> {
     let alloc = rt.alloc();
     let words = words_of(alloc, &["sag", "replay", "J", "S"])?;
-    let mut files = SureFiles::new(files_of(alloc, JOBS.as_bytes(), SCENARIO.as_bytes())?);
+    let mut files = SureFiles::new(files_of(alloc, &[("J", JOBS), ("S", SCENARIO)])?);
     let mut out = SureSink::new(alloc, 100)?;
     let mut err = SureSink::new(alloc, 100)?;
     assert_eq!(rt;
@@ -254,6 +392,7 @@ fn tells_the_usage(rt: HostRuntime) -> Result<(), Fail> {
         ["sag", "analyze", "J"].as_slice(),
         ["sag", "replay", "J"].as_slice(),
         ["sag", "replay", "J", "S", "--help"].as_slice(),
+        ["sag", "replay", "J", "S", "--cores", "65"].as_slice(),
     ] {
         let words = words_of(alloc, words)?;
         let mut files = SureFiles::new(Vec::new(alloc));
@@ -263,7 +402,7 @@ fn tells_the_usage(rt: HostRuntime) -> Result<(), Fail> {
         assert_eq!(rt; status, Status::Usage);
         assert_eq!(rt;
             err.bytes(),
-            b"usage: sag replay JOBS SCENARIO\n".as_slice()
+            b"usage: sag replay JOBS SCENARIO [--prec FILE] [--cores N]\n".as_slice()
         );
         assert_eq!(rt; out.bytes(), b"".as_slice());
     }

@@ -8,6 +8,7 @@
 --   no_memory       want of memory
 --   csv_text        why a file is no table of numbers
 --   table_text      why the rows of the job file are no job table
+--   edge_text       why the rows of the precedence file are no edges of a job table
 --   side_text       why a file beside the job file is refused
 --   fault_text      the text of a fault
 --   has_text        every fault has a text, but a job without a row, which is told by its IDs
@@ -19,10 +20,12 @@ use Rattle.csv_numbers.specs.declared.fault.CsvFault.{CsvFault}
 use Rattle.csv_numbers.specs.declared.fault.CsvFault.TheVariants as csv
 use Rattle.job_model.specs.declared.fault.TableFault.{TableFault}
 use Rattle.job_model.specs.declared.fault.TableFault.TheVariants as table
+use Rattle.job_model.specs.declared.fault.EdgeFault.{EdgeFault}
+use Rattle.job_model.specs.declared.fault.EdgeFault.TheVariants as edge
 use Rattle.side_csv.specs.declared.fault.SideFault.{SideFault}
 use Rattle.side_csv.specs.declared.fault.SideFault.TheVariants as side
 use Rattle.sag_texts.specs.declared.fault.FileKind.{FileKind}
-use Rattle.sag_texts.specs.declared.fault.FileKind.TheVariants.{Jobs, Scenario}
+use Rattle.sag_texts.specs.declared.fault.FileKind.TheVariants.{Jobs, Scenario, Precedence}
 use Rattle.sag_texts.specs.declared.fault.Fault.{Fault}
 use Rattle.sag_texts.specs.declared.fault.Fault.TheVariants as fault
 
@@ -34,6 +37,7 @@ line pieces = concat pieces ++ 10 ∷ []
 abbrev pub file_word : FileKind → List ℕ
 file_word Jobs = codes "jobs"
 file_word Scenario = codes "scenario"
+file_word Precedence = codes "precedence"
 
 -- why a file is refused
 unfoldable pub refusal : FileKind → List (List ℕ) → List ℕ
@@ -72,6 +76,13 @@ table_text (table.ZeroCost row) = row_refusal Jobs row (codes " column 5 is 0" �
 table_text (table.Twice row earlier) = repeat_refusal Jobs row earlier
 table_text table.Memory = no_memory
 
+-- why the rows of the precedence file are no edges of a job table
+unfoldable pub edge_text : EdgeFault → List ℕ
+edge_text edge.TooManyEdges = refusal Precedence (codes " too many rows" ∷ [])
+edge_text (edge.SelfEdge row) = row_refusal Precedence row (codes " names one job twice" ∷ [])
+edge_text (edge.Cycle row) = row_refusal Precedence row (codes " closes a cycle" ∷ [])
+edge_text edge.Memory = no_memory
+
 -- why a file beside the job file is refused
 unfoldable pub side_text : FileKind → SideFault → List ℕ
 side_text file (side.Csv fault) = csv_text file fault
@@ -83,10 +94,11 @@ side_text file side.Memory = no_memory
 
 -- the text of a fault
 unfoldable pub fault_text : Fault → List ℕ
-fault_text fault.Usage = line (codes "usage: sag replay JOBS SCENARIO" ∷ [])
+fault_text fault.Usage = line (codes "usage: sag replay JOBS SCENARIO [--prec FILE] [--cores N]" ∷ [])
 fault_text (fault.TooLong file) = refusal file (codes " file too long" ∷ [])
 fault_text (fault.Csv file why) = csv_text file why
 fault_text (fault.Table why) = table_text why
+fault_text (fault.Edge why) = edge_text why
 fault_text (fault.Side file why) = side_text file why
 fault_text (fault.NoRow file task job) = refusal file (codes " has no row for job " ∷ decimal task ∷ codes " " ∷ decimal job ∷ [])
 fault_text (fault.CannotRead file) = line (codes "cannot read " ∷ file_word file ∷ [])

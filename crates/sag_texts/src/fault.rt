@@ -1,7 +1,7 @@
 // What a call of `sag` can be refused for.
 
 use csv_numbers::CsvFault;
-use job_model::TableFault;
+use job_model::{EdgeFault, TableFault};
 use side_csv::SideFault;
 
 /// A file of the command line, by what it holds.
@@ -9,6 +9,7 @@ use side_csv::SideFault;
 pub enum FileKind {
     Jobs,
     Scenario,
+    Precedence,
 }
 
 /// Why there is no answer. Rows are counted from 1, after the heading, and columns from 1.
@@ -22,6 +23,8 @@ pub enum Fault {
     Csv(FileKind, CsvFault),
     /// The rows of the job file are no job table.
     Table(TableFault),
+    /// The rows of the precedence file are no edges of a job table.
+    Edge(EdgeFault),
     /// A file beside the job file does not fit the job table.
     Side(FileKind, SideFault),
     /// The file has no row for this job: (file, task ID, job ID).

@@ -2,7 +2,7 @@
 #![tactic(auto)]
 
 ghost use Rattle.sag_edge.specs.Writing.{Puts};
-ghost use Rattle.sag_texts.specs.FaultTexts.{HasText, csv_text, fault_text, no_memory, side_text, table_text};
+ghost use Rattle.sag_texts.specs.FaultTexts.{HasText, csv_text, edge_text, fault_text, no_memory, side_text, table_text};
 
 mod fault;
 mod piece;
@@ -12,7 +12,7 @@ mod tests;
 
 use csv_numbers::CsvFault;
 pub use fault::{Fault, FileKind};
-use job_model::TableFault;
+use job_model::{EdgeFault, TableFault};
 use piece::Piece::{File, Number, Words};
 use piece::write_line;
 use refusal::{refuse, refuse_field, refuse_repeat, refuse_row};
@@ -69,6 +69,28 @@ fn write_table_fault<S: Sink>(sink: &mut S, why: &TableFault) -> Result<(), Fail
     }
 }
 
+#[tactic(auto, unfolding(crate::specs::FaultTexts::edge_text))]
+fn write_edge_fault<S: Sink>(sink: &mut S, why: &EdgeFault) -> Result<(), Failed>
+    ensures { Puts (S.seen sink.old) (S.seen sink.new) (edge_text why.now) result }
+{
+    let file = FileKind::Precedence;
+    match why {
+        EdgeFault::TooManyEdges => refuse(sink, file, &[Words(" too many rows")]),
+        EdgeFault::SelfEdge(row) => {
+            refuse_row(
+                sink,
+                file,
+                u64::from(*row),
+                &[Words(" names one job twice")],
+            )
+        }
+        EdgeFault::Cycle(row) => {
+            refuse_row(sink, file, u64::from(*row), &[Words(" closes a cycle")])
+        }
+        EdgeFault::Memory => write_no_memory(sink),
+    }
+}
+
 #[tactic(auto, unfolding(crate::specs::FaultTexts::side_text))]
 fn write_side_fault<S: Sink>(sink: &mut S, file: FileKind, why: &SideFault) -> Result<(), Failed>
     requires { HasText (Fault.Side file why.now) }
@@ -95,10 +117,14 @@ pub fn write_fault<S: Sink>(sink: &mut S, fault: &Fault) -> Result<(), Failed>
     ensures { Puts (S.seen sink.old) (S.seen sink.new) (fault_text fault.now) result }
 {
     match fault {
-        Fault::Usage => write_line(sink, &[Words("usage: sag replay JOBS SCENARIO")]),
+        Fault::Usage => write_line(
+            sink,
+            &[Words("usage: sag replay JOBS SCENARIO [--prec FILE] [--cores N]")],
+        ),
         Fault::TooLong(file) => refuse(sink, *file, &[Words(" file too long")]),
         Fault::Csv(file, why) => write_csv_fault(sink, *file, why),
         Fault::Table(why) => write_table_fault(sink, why),
+        Fault::Edge(why) => write_edge_fault(sink, why),
         Fault::Side(file, why) => write_side_fault(sink, *file, why),
         Fault::NoRow(file, task, job) => {
             let (task, job) = (Number(*task), Number(*job));

@@ -26,6 +26,7 @@ impl FileKind {
         match self {
             FileKind::Jobs => "jobs",
             FileKind::Scenario => "scenario",
+            FileKind::Precedence => "precedence",
         }
     }
 }

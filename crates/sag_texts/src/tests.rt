@@ -1,9 +1,9 @@
 ghost use Rattle.sag_texts.specs.FaultTexts.{HasText};
 
-use crate::FileKind::{Jobs, Scenario};
+use crate::FileKind::{Jobs, Precedence, Scenario};
 use crate::{Fault, write_fault};
 use csv_numbers::CsvFault;
-use job_model::TableFault;
+use job_model::{EdgeFault, TableFault};
 use sag_edge::MemSink;
 use side_csv::SideFault;
 use std::alloc::Global;
@@ -24,7 +24,7 @@ fn is_told(rt: &impl Abort, alloc: Global, line: &str, fault: Fault) -> Result<(
 #[test]
 fn tells_faults(rt: HostRuntime) -> Result<(), Fail> {
     let a = rt.alloc();
-    let usage = "usage: sag replay JOBS SCENARIO";
+    let usage = "usage: sag replay JOBS SCENARIO [--prec FILE] [--cores N]";
     is_told(&rt, a, usage, Fault::Usage)?;
     let too_long = "refused jobs file too long";
     is_told(&rt, a, too_long, Fault::TooLong(Jobs))?;
@@ -73,12 +73,34 @@ fn tells_table_faults(rt: HostRuntime) -> Result<(), Fail> {
 }
 
 #[test]
+fn tells_edge_faults(rt: HostRuntime) -> Result<(), Fail> {
+    for (line, why) in [
+        ("refused precedence too many rows", EdgeFault::TooManyEdges),
+        (
+            "refused precedence row 65536 names one job twice",
+            EdgeFault::SelfEdge(65536),
+        ),
+        (
+            "refused precedence row 2 closes a cycle",
+            EdgeFault::Cycle(2),
+        ),
+        ("no memory", EdgeFault::Memory),
+    ] {
+        is_told(&rt, rt.alloc(), line, Fault::Edge(why))?;
+    }
+    Ok(())
+}
+
+#[test]
 fn tells_side_faults(rt: HostRuntime) -> Result<(), Fail> {
     let a = rt.alloc();
     let csv = Fault::Side(Scenario, SideFault::Csv(CsvFault::NoHeading));
     is_told(&rt, a, "refused scenario no heading", csv)?;
     let unknown = Fault::Side(Scenario, SideFault::Unknown(4, 1));
     let line = "refused scenario row 4 column 1 names no job";
+    is_told(&rt, a, line, unknown)?;
+    let unknown = Fault::Side(Precedence, SideFault::Unknown(1, 3));
+    let line = "refused precedence row 1 column 3 names no job";
     is_told(&rt, a, line, unknown)?;
     let twice = Fault::Side(Scenario, SideFault::Twice(2, 1));
     is_told(&rt, a, "refused scenario row 2 repeats row 1", twice)?;

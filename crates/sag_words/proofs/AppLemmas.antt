@@ -1,20 +1,16 @@
 -- A command, one argument at a time, and the words that it refuses.
-use Rattle.std.proofs.Common.{Bor, ◌≡◌, ◌<◌, ◌+◌, ◌++◌, ◌∷◌, ◌∙◌, [], ℕ, List, length, take, get_or, true, refl, ap, inl, inr, Bool, false, ◌&&◌}
+use Rattle.std.proofs.Common.{◌≡◌, ◌<◌, ◌+◌, ◌++◌, ◌∷◌, ◌∙◌, [], ℕ, List, length, take, get_or, map, true, refl, inl, inr, ap, Bool, false, ◌&&◌}
 use Rattle.std.proofs.lemmas.List.{map-append, take_more}
-use Rattle.clap.specs.Simple.{on_top, with_rule}
-use Rattle.clap.specs.Walk.{Text, texts}
 use Rattle.clap.specs.Words.{HasKind, Kinds, kind_of}
 use Rattle.clap.specs.declared.error.Error.{Error}
 use Rattle.clap.specs.declared.error.kind.ErrorKind.TheVariants as kind
-use Rattle.sag_words.specs.Apps.{app_with, place}
+use Rattle.sag_words.specs.Apps.{argument_rule}
+use Rattle.sag_words.specs.declared.parse.Argument.{Argument}
 
--- one more argument by place
-pub app_with-push : (name : Text) (places : List Text) (last : Text) → with_rule (app_with name places) (place last) ≡ app_with name (places ++ last ∷ [])
-app_with-push name places last = ap (λ rules. on_top (λ s. record s { rules = rules }) (app_with name [])) (rw (map-append place places (last ∷ [])) refl)
-
--- one more text
-pub texts-take_more : (xs : List (Bor Text)) (i : ℕ) (d : Bor Text) → i < length xs → texts (take (i + 1) xs) ≡ texts (take i xs) ++ (get_or xs i d).now ∷ []
-texts-take_more xs i d within = ap texts (take_more xs i d within) ∙ map-append (λ s. s.now) (take i xs) (get_or xs i d ∷ [])
+-- one more rule
+pub rules-take_more : (arguments : List Argument) (i : ℕ) (d : Argument) → i < length arguments
+    → map argument_rule (take (i + 1) arguments) ≡ map argument_rule (take i arguments) ++ argument_rule (get_or arguments i d) ∷ []
+rules-take_more arguments i d within = ap (map argument_rule) (take_more arguments i d within) ∙ map-append argument_rule (take i arguments) (get_or arguments i d ∷ [])
 
 pub left_of_and : (a b : Bool) → (a && b) ≡ true → a ≡ true
 left_of_and true b e = refl

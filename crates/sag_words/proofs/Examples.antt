@@ -1,9 +1,10 @@
 -- What some lists of words after `replay` come to.
-use Rattle.std.proofs.Common.{◌≡◌, ◌∷◌, [], Some, codes, refl, true}
+use Rattle.std.proofs.Common.{◌≡◌, ◌∷◌, [], ℕ, Some, None, arith, codes, lit<, lit≤, refl, true}
 use Rattle.clap.specs.Words.{fault_of, is_simple_and_free}
-use Rattle.clap.specs.declared.error.kind.ErrorKind.TheVariants.{MissingRequiredArgument, UnknownArgument}
+use Rattle.clap.specs.declared.error.kind.ErrorKind.TheVariants.{ArgumentConflict, InvalidValue, MissingRequiredArgument, UnknownArgument}
 use Rattle.clap.proofs.OnLiterals.{clap_on_literals}
 use Rattle.sag_words.specs.Apps.{Takes, replay_app, value_at}
+use Rattle.sag_words.specs.Numbers.{GivesCores}
 
 simple : is_simple_and_free replay_app ≡ true
 simple = refl
@@ -99,3 +100,70 @@ twice_taken = refl
 twice_scenario : value_at replay_app (codes "J" ∷ codes "--" ∷ codes "--" ∷ []) (codes "SCENARIO") ≡ Some (codes "--")
 unfolding clap_on_literals value_at
 twice_scenario = refl
+
+-- options stand between the places, and after them
+options_taken : Takes replay_app (codes "J" ∷ codes "--cores=7" ∷ codes "S" ∷ codes "--prec" ∷ codes "P" ∷ [])
+unfolding clap_on_literals Takes
+options_taken = refl
+
+options_scenario : value_at replay_app (codes "J" ∷ codes "--cores=7" ∷ codes "S" ∷ codes "--prec" ∷ codes "P" ∷ []) (codes "SCENARIO") ≡ Some (codes "S")
+unfolding clap_on_literals value_at
+options_scenario = refl
+
+options_prec : value_at replay_app (codes "J" ∷ codes "--cores=7" ∷ codes "S" ∷ codes "--prec" ∷ codes "P" ∷ []) (codes "prec") ≡ Some (codes "P")
+unfolding clap_on_literals value_at
+options_prec = refl
+
+options_cores : value_at replay_app (codes "J" ∷ codes "--cores=7" ∷ codes "S" ∷ codes "--prec" ∷ codes "P" ∷ []) (codes "cores") ≡ Some (codes "7")
+unfolding clap_on_literals value_at
+options_cores = refl
+
+-- without an option there is no value
+no_prec : value_at replay_app (codes "J" ∷ codes "S" ∷ []) (codes "prec") ≡ None
+unfolding clap_on_literals value_at
+no_prec = refl
+
+empty_prec : value_at replay_app (codes "J" ∷ codes "S" ∷ codes "--prec=" ∷ []) (codes "prec") ≡ Some []
+unfolding clap_on_literals value_at
+empty_prec = refl
+
+hyphen_prec : value_at replay_app (codes "J" ∷ codes "S" ∷ codes "--prec" ∷ codes "-" ∷ []) (codes "prec") ≡ Some (codes "-")
+unfolding clap_on_literals value_at
+hyphen_prec = refl
+
+-- an option comes once, under its whole name, and has a value that does not begin with `-`
+second_use : fault_of replay_app (codes "J" ∷ codes "S" ∷ codes "--cores" ∷ codes "2" ∷ codes "--cores=2" ∷ []) ≡ ArgumentConflict ∷ []
+unfolding clap_on_literals
+second_use = refl
+
+part_of_name : fault_of replay_app (codes "J" ∷ codes "S" ∷ codes "--core" ∷ codes "2" ∷ []) ≡ UnknownArgument ∷ []
+unfolding clap_on_literals
+part_of_name = refl
+
+no_value : fault_of replay_app (codes "J" ∷ codes "S" ∷ codes "--cores" ∷ []) ≡ InvalidValue ∷ []
+unfolding clap_on_literals
+no_value = refl
+
+option_as_value : fault_of replay_app (codes "J" ∷ codes "S" ∷ codes "--prec" ∷ codes "--cores=2" ∷ []) ≡ InvalidValue ∷ []
+unfolding clap_on_literals
+option_as_value = refl
+
+dashes_as_value : fault_of replay_app (codes "J" ∷ codes "S" ∷ codes "--prec" ∷ codes "--" ∷ []) ≡ InvalidValue ∷ []
+unfolding clap_on_literals
+dashes_as_value = refl
+
+negative_as_value : fault_of replay_app (codes "J" ∷ codes "S" ∷ codes "--cores" ∷ codes "-1" ∷ []) ≡ UnknownArgument ∷ []
+unfolding clap_on_literals
+negative_as_value = refl
+
+-- numbers are spelled as in a CSV file
+seven : GivesCores (Some (codes "007")) 7
+seven = (record { digits = (lit< tt, λ k d within. grind arith); value = refl; fits = lit< tt }, lit≤ tt, lit≤ tt)
+
+one_core : GivesCores None 1
+one_core = refl
+
+no_sign : (n : ℕ) → GivesCores (Some (codes "+7")) n → ⊥
+no_sign n gives =
+    let digit = gives.0.digits.1 0 0 (lit< tt) in
+    absurd (omega (arith, digit.0))

@@ -1,3 +1,4 @@
 pub mod AppLemmas
+pub mod OneCommand
 pub mod WordLemmas
 mod Examples

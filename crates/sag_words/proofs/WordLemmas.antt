@@ -1,5 +1,5 @@
 -- Which command the words ask for.
-use Rattle.std.proofs.Common.{Bor, ◌≡◌, ◌∙◌, List, Option, ap, codes, option_map}
+use Rattle.std.proofs.Common.{Bor, ◌≡◌, ◌∙◌, ℕ, List, Option, ap, codes, option_map}
 use Rattle.clap.proofs.WalkLemmas.{first_value-rows}
 use Rattle.clap.specs.Words.{App, Text, first_of, first_value, matches_of, rows_of}
 use Rattle.clap.specs.declared.parser.matches.Found.{Found}
@@ -16,12 +16,12 @@ value_read app words found id read gets rows = gets ∙ first_value-rows found i
 
 -- words that give no `replay` ask for nothing under that name
 pub replay_refused : (rest : List Text)
-    → ((jobs scenario : Text) → Takes replay_app rest → Gives (value_at replay_app rest) (Replay jobs scenario) → ⊥)
+    → ((jobs scenario : Text) (prec : Option Text) (cores : ℕ) → Takes replay_app rest → Gives (value_at replay_app rest) (Replay jobs scenario prec cores) → ⊥)
     → (command : Command) → Asks (codes "replay") rest command → ⊥
 unfolding Asks
-replay_refused rest none (Replay jobs scenario) asks = none jobs scenario asks.1 asks.2
+replay_refused rest none (Replay jobs scenario prec cores) asks = none jobs scenario prec cores asks.1 asks.2
 
 -- a name that is no command's asks for nothing
 pub unknown_refused : (name : Text) (rest : List Text) → (name ≡ codes "replay" → ⊥) → (command : Command) → Asks name rest command → ⊥
 unfolding Asks
-unknown_refused name rest replay (Replay jobs scenario) asks = replay asks.0
+unknown_refused name rest replay (Replay jobs scenario prec cores) asks = replay asks.0

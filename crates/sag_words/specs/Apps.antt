@@ -1,24 +1,37 @@
 -- How a command's words are read, as `clap` states it.
---   place     an argument that has to be there, by its place
---   app_with  the command of that name with these places
---   Takes     the words are in the command's grammar
---   value_at  the value that they give an argument
---   replay_app  the grammar of `replay`
-use Rattle.std.specs.Prelude.{◌≡◌, List, [], ◌∷◌, Option, codes, map, true}
+--   place          an argument that has to be there, by its place
+--   named          an argument that may be given, by its name
+--   argument_rule  the rule of an argument
+--   app_with       the command of that name with these arguments
+--   Takes          the words are in the command's grammar
+--   value_at       the value that they give an argument
+--   replay_app     the grammar of `replay`
+use Rattle.std.specs.Prelude.{◌≡◌, List, [], ◌∷◌, Option, Some, codes, true}
 use Rattle.clap.specs.Simple.{new_shape}
 use Rattle.clap.specs.Words.{App, Rule, Text, fault_of, first_of, matches_of, new_rule}
+use Rattle.sag_words.specs.declared.parse.Argument.{Argument}
+use Rattle.sag_words.specs.declared.parse.Argument.TheVariants.{Place, Named}
 
 -- an argument that has to be there, by its place
 abbrev pub place : Text → Rule
 place id = record (new_rule id) { required = true }
 
--- The command of that name with these places, and with neither help nor version. It reads the words after its name.
-abbrev pub app_with : Text → List Text → App
-app_with name places = record {
+-- an argument that may be given, as `--id value` or `--id=value`
+abbrev pub named : Text → Rule
+named id = record (new_rule id) { long = Some id }
+
+-- the rule of an argument
+abbrev pub argument_rule : Argument → Rule
+argument_rule (Place name) = place name.now
+argument_rule (Named name) = named name.now
+
+-- The command of that name with these arguments, and with neither help nor version. It reads the words after its name.
+abbrev pub app_with : Text → List Rule → App
+app_with name arguments = record {
   top = record (new_shape name) {
     no_binary_name = true;
     disable_help_flag = true;
-    rules = map place places;
+    rules = arguments;
   };
   subs = [];
 }
@@ -31,6 +44,6 @@ Takes app words = fault_of app words ≡ []
 unfoldable pub value_at : App → List Text → Text → Option Text
 value_at app words id = first_of id (matches_of app words)
 
--- replay JOBS SCENARIO
+-- replay JOBS SCENARIO [--prec FILE] [--cores N]
 abbrev pub replay_app : App
-replay_app = app_with (codes "replay") (codes "JOBS" ∷ codes "SCENARIO" ∷ [])
+replay_app = app_with (codes "replay") (place (codes "JOBS") ∷ place (codes "SCENARIO") ∷ named (codes "prec") ∷ named (codes "cores") ∷ [])

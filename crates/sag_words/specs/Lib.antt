@@ -1,2 +1,4 @@
 pub mod Apps
+pub mod Numbers
 pub mod Words
+pub mod Laws

@@ -7,6 +7,7 @@
 --   WordsOf         the words of a command line ask for this command
 use Rattle.std.specs.Prelude.{◌≡◌, List, [], ◌∷◌, Option, Some, codes}
 use Rattle.clap.specs.Words.{App, Text}
+use Rattle.sag_words.specs.Numbers.{GivesCores}
 use Rattle.sag_words.specs.Apps.{Takes, replay_app, value_at}
 use Rattle.sag_words.specs.declared.Command.{Command}
 use Rattle.sag_words.specs.declared.Command.TheVariants.{Replay}
@@ -17,15 +18,16 @@ Values = Text → Option Text
 
 -- how a command is spelled
 abbrev pub name_of : Command → Text
-name_of (Replay jobs scenario) = codes "replay"
+name_of (Replay jobs scenario prec cores) = codes "replay"
 
 -- the grammar of its words
 abbrev pub app_of_command : Command → App
-app_of_command (Replay jobs scenario) = replay_app
+app_of_command (Replay jobs scenario prec cores) = replay_app
 
 -- the values are those of this command
 abbrev pub Gives : Values → Command → Type 0
-Gives given (Replay jobs scenario) = (given (codes "JOBS") ≡ Some jobs) × (given (codes "SCENARIO") ≡ Some scenario)
+Gives given (Replay jobs scenario prec cores) = (given (codes "JOBS") ≡ Some jobs) × (given (codes "SCENARIO") ≡ Some scenario)
+    × (given (codes "prec") ≡ prec) × GivesCores (given (codes "cores")) cores
 
 -- the name is that of this command, and the words after it are in its grammar and give its values
 unfoldable pub Asks : Text → List Text → Command → Type 0

@@ -1,3 +1,5 @@
+pub mod PrecedenceLemmas
 pub mod RowLemmas
 pub mod ScenarioLemmas
+mod WorkedPrecedence
 mod WriteLemmas

@@ -2,3 +2,5 @@ pub mod ScenarioText
 pub mod ScenarioRows
 pub mod ScenarioFaults
 pub mod Places
+pub mod PrecedenceText
+pub mod PrecedenceFaults

@@ -8,7 +8,7 @@ use job_model::JobNo;
 
 /// The first rule that a file beside the job table breaks. Rows are counted from 1, after the heading, and columns
 /// from 1.
-#[derive(Debug, Drop)]
+#[derive(Debug, PartialEq, Eq, Drop)]
 pub enum SideFault {
     /// The text is no table of four numbers a row. The fault inside is never want of memory.
     Csv(CsvFault),

@@ -1,4 +1,4 @@
-use crate::{SideFault, read_scenario, write_scenario};
+use crate::{SideFault, read_edges, read_scenario, write_scenario};
 use csv_numbers::CsvFault;
 use job_model::{Job, JobNo, JobTable, Scenario};
 use std::alloc::{AllocError, Global};
@@ -120,5 +120,71 @@ fn writes_rows_by_job(rt: HostRuntime) -> Result<(), Fail> {
         text.as_slice(),
         b"Task ID,Job ID,Release,Cost\n".as_slice()
     );
+    Ok(())
+}
+
+// Four jobs: 1 1, 2 1, 3 1 and 4 1.
+fn four_jobs(alloc: Global) -> Result<JobTable, AllocError> {
+    let first = Job {
+        task: 1,
+        job: 1,
+        rmin: 0,
+        rmax: 0,
+        cmin: 1,
+        cmax: 1,
+        deadline: 9,
+        priority: 1,
+    };
+    let mut rows = Vec::new(alloc);
+    for task in 1..5 {
+        rows.push(Job { task, ..first })?;
+    }
+    JobTable::from_rows(alloc, rows).map_err(|_| AllocError)
+}
+
+#[test]
+fn reads_edges_by_row(rt: HostRuntime) -> Result<(), Fail> {
+    let alloc = rt.alloc();
+    let table = four_jobs(alloc)?;
+    for (text, edges) in [
+        ("h\n", [].as_slice()),
+        ("h\n1,1,2,1\n1,1,2,1\n", &[(0, 1), (0, 1)]),
+        ("h\n4,1,3,1\n3,1,3,1\n3,1,4,1\n", &[(3, 2), (2, 2), (2, 3)]),
+    ] {
+        let read = read_edges(alloc, text.as_bytes(), &table).expect(&rt, "edges");
+        let mut numbers = Vec::new(alloc);
+        for (predecessor, successor) in &read {
+            numbers.push((predecessor.0, successor.0))?;
+        }
+        assert_eq!(rt; numbers.as_slice(), edges, "at {text}");
+    }
+    Ok(())
+}
+
+#[test]
+fn refuses_edges(rt: HostRuntime) -> Result<(), Fail> {
+    let alloc = rt.alloc();
+    let table = four_jobs(alloc)?;
+    for (text, row, column) in [
+        ("h\n9,1,1,1\n", 1, 1),
+        ("h\n1,1,9,1\n", 1, 3),
+        ("h\n9,1,9,1\n", 1, 1),
+        ("h\n1,1,2,1\n1,1,2,2\n", 2, 3),
+    ] {
+        let read = read_edges(alloc, text.as_bytes(), &table);
+        assert_eq!(rt;
+            read.err(),
+            Some(SideFault::Unknown(row, column)),
+            "at {text}"
+        );
+    }
+    for (text, fault) in [
+        ("", CsvFault::NoHeading),
+        ("h\n1,1,2\n", CsvFault::Width(1, 3)),
+        ("h\n9,1,1,1\n1,1,x,1\n", CsvFault::NotNumber(2, 3)),
+    ] {
+        let read = read_edges(alloc, text.as_bytes(), &table);
+        assert_eq!(rt; read.err(), Some(SideFault::Csv(fault)), "at {text}");
+    }
     Ok(())
 }

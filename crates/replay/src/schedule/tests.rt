@@ -64,3 +64,44 @@ fn writes_rows_by_start_and_urgency(rt: HostRuntime) -> Result<(), Fail> {
     assert_eq!(rt; text.as_slice(), want.as_slice());
     Ok(())
 }
+
+/// A job released at 0 that costs from `cmin` to `cmax`.
+fn job_between(task: u64, priority: u64, cmin: u64, cmax: u64) -> Job {
+    Job {
+        task,
+        job: 1,
+        rmin: 0,
+        rmax: 0,
+        cmin,
+        cmax,
+        deadline: 10,
+        priority,
+    }
+}
+
+#[test]
+fn starts_a_job_when_its_predecessor_has_finished(rt: HostRuntime) -> Result<(), Fail> {
+    let alloc = rt.alloc();
+    let jobs = [
+        job_between(1, 1, 2, 4),
+        job_between(2, 2, 1, 1),
+        job_between(3, 3, 1, 2),
+    ];
+    let table = JobTable::from_rows(alloc, Vec::from_slice(alloc, &jobs)?)?;
+    let (Some(before), Some(after)) = (table.find(1, 1), table.find(3, 1)) else {
+        return Err(Fail::new("the table has these jobs"));
+    };
+    let Ok(table) = table.with_edges(alloc, &[(before, after)]) else {
+        return Err(Fail::new("one edge closes no cycle"));
+    };
+    let rows = Vec::from_slice(alloc, &[(0, 4), (0, 1), (0, 2)])?;
+    let Some(scenario) = Scenario::new(&table, rows) else {
+        return Err(Fail::new("the scenario does not fit"));
+    };
+    let schedule = replay(alloc, &table, 2, &scenario)?;
+    assert_eq!(rt;
+        write_schedule(alloc, &table, &scenario, &schedule)?.as_slice(),
+        b"Task ID,Job ID,Start,Finish,Core\n1,1,0,4,0\n2,1,0,1,1\n3,1,4,6,0\n".as_slice()
+    );
+    Ok(())
+}

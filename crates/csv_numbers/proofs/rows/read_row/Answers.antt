@@ -53,4 +53,4 @@ columns-preserved c =
     let good : is_ok c.push.result ≡ true = search rules in
     let items = rw good at c.push.ensures.items in
     rw (add-one, field-take fields c.columns.column c.in-Some.field.now here, items)
-    (zip-push (λ field n. Spells (bare field) n) (take c.columns.column fields) c.columns.numbers.items c.in-Some.field.now c.in-Ok-read_number.number c.columns.invariant c.in-Ok-read_number.ensures)
+    (zip-push (λ field n. Spells (bare field) n) (take c.columns.column fields) c.columns.numbers.items c.in-Some.field.now c.in-Ok-read_field.number c.columns.invariant c.in-Ok-read_field.ensures)

@@ -6,12 +6,12 @@ use Rattle.replay.proofs.dispatch.next_turn.Goals as goal
 
 pub unwrap-time-requires : goal.unwrap-time-requires
 unwrap-time-requires c =
-    ready_some c.args.table.now c.args.cores c.args.scenario.now c.requires.no_edges c.args.queues.now c.args.free.now c.args.clock c.max.result
+    ready_some c.args.table.now c.args.cores c.args.scenario.now c.requires.table c.args.queues.now c.args.free.now c.args.clock c.max.result
     c.requires.stands c.next_ready.result c.next_ready.ensures
 
 pub unwrap-job-requires : goal.unwrap-job-requires
 unwrap-job-requires c =
-    job_found c.args.table.now c.args.cores c.args.scenario.now c.requires.no_edges c.requires.table c.requires.fits
+    job_found c.args.table.now c.args.cores c.args.scenario.now c.requires.table c.requires.fits
     c.args.queues.now c.admit.new.self c.take.new.self c.args.free.now c.args.clock c.unwrap-idle.result c.max.result c.unwrap-time.result c.requires.stands c.max.ensures
     (MatchOption-at_some _ (IsNextReady c.args.queues.now c.max.result) c.unwrap-time.result c.unwrap-time.ensures c.next_ready.ensures)
     c.in_ok-admit.ensures.kept c.in_ok-admit.ensures.rest
@@ -19,7 +19,7 @@ unwrap-job-requires c =
 
 pub returns : goal.returns
 returns c =
-    IsNext-found c.args.table.now c.args.cores c.args.scenario.now c.requires.no_edges c.requires.table c.requires.fits
+    IsNext-found c.args.table.now c.args.cores c.args.scenario.now c.requires.table c.requires.fits
     c.args.queues.now c.admit.new.self c.take.new.self c.args.free.now c.args.clock c.unwrap-idle.result c.max.result c.unwrap-time.result c.requires.stands c.max.ensures
     (MatchOption-at_some _ (IsNextReady c.args.queues.now c.max.result) c.unwrap-time.result c.unwrap-time.ensures c.next_ready.ensures)
     c.in_ok-admit.ensures.kept c.in_ok-admit.ensures.rest

@@ -1,30 +1,41 @@
-use Rattle.std.proofs.Common.{ℕ, ◌<◌, length, ap, ◌∙◌, arith}
-use Rattle.std.proofs.lemmas.Bool.{ne_eqb}
+use Rattle.std.proofs.Common.{length, ap, ◌∙◌, arith}
 use Rattle.std.proofs.lemmas.List.{length-replicate}
-use Rattle.replay.specs.Queues.{copies, is_dispatched}
-use Rattle.replay.proofs.Standing.{Stands-first, AreFree-first, Stands-turned, AreFree-turned, Legal-from_stands, LowestIdle-from_stands}
+use Rattle.replay.specs.Queues.{is_dispatched}
+use Rattle.replay.proofs.Standing.{Stands-first, AreFree-first, lack_turned, Stands-turned, AreFree-turned, AreCounted-turned, Legal-from_stands, LowestIdle-from_stands}
+use Rattle.replay.proofs.Lacking.{AreCounted-first}
 use Rattle.replay.proofs.dispatch.replay.Goals as goal
 
 pub loop-turn-init : goal.loop-turn-init
 loop-turn-init c =
     let queues = c.in_ok-queues.queues in
-    let none = λ (j : ℕ) (is_job : j < length c.args.table.now.jobs). ne_eqb (copies queues j) 0 (λ e. omega (arith, e, c.in_ok-queues.ensures.all j is_job)) in
+    let all = c.in_ok-queues.ensures in
     let all_places = c.in_ok-places.ensures.items_if_clones_equal (λ y h. h) in
     record {
-      stands = Stands-first c.args.table.now c.args.cores c.args.scenario.now (is_dispatched queues) c.in_ok-places.places.items none
+      stands = Stands-first c.args.table.now c.args.cores c.args.scenario.now (is_dispatched queues) c.in_ok-places.places.items all.none
           (ap length all_places ∙ length-replicate c.len-count.result _ ∙ c.len-count.ensures.count);
-      frees = AreFree-first c.args.table.now c.args.cores c.args.scenario.now (is_dispatched queues) c.in_ok-places.places.items none
+      frees = AreFree-first c.args.table.now c.args.cores c.args.scenario.now (is_dispatched queues) c.in_ok-places.places.items all.none
           c.in_ok-free.free.items (c.in_ok-free.ensures.items_if_clones_equal (λ y h. h));
-      queues = c.in_ok-queues.ensures.queued;
+      counted = AreCounted-first c.args.table.now c.args.scenario.now c.len-count.ensures.table c.requires.fits c.in_ok-places.places.items queues all;
+      queues = all.queues;
     }
+
+pub unblock-requires-clause-missing : goal.unblock-requires-clause-missing
+unblock-requires-clause-missing c =
+    lack_turned c.args.table.now c.args.cores c.args.scenario.now c.len-count.ensures.table c.requires.fits c.loop-turn.queues c.next_turn.new.queues c.loop-turn.places.items c.loop-turn.free.items c.loop-turn.clock c.loop-turn._turn
+    c.loop-turn.invariant.stands c.loop-turn.invariant.frees c.loop-turn.invariant.counted c.deref.result.now c.deref.ensures.value c.in_ok-job.job c.in_ok-job.core c.in_ok-job.time c.in_ok-job.ensures c.job.inside.0 c.job.view_is c.cost.result c.cost.ensures
 
 pub loop-turn-preserved : goal.loop-turn-preserved
 loop-turn-preserved c = record {
   stands = Stands-turned c.args.table.now c.args.cores c.args.scenario.now c.len-count.ensures.table c.requires.fits c.loop-turn.queues c.next_turn.new.queues c.loop-turn.places.items c.loop-turn.free.items c.loop-turn.clock c.loop-turn._turn
-      c.loop-turn.invariant.stands c.loop-turn.invariant.frees c.deref.result.now c.deref.ensures.value c.in_ok-job.job c.in_ok-job.core c.in_ok-job.time c.in_ok-job.ensures c.job.inside.0 c.job.view_is;
+      c.loop-turn.invariant.stands c.loop-turn.invariant.frees c.loop-turn.invariant.counted c.deref.result.now c.deref.ensures.value c.in_ok-job.job c.in_ok-job.core c.in_ok-job.time c.in_ok-job.ensures c.job.inside.0 c.job.view_is c.cost.result c.cost.ensures
+      c.unblock.new.self c.in_ok-unblock.ensures;
   frees = AreFree-turned c.args.table.now c.args.cores c.args.scenario.now c.len-count.ensures.table c.requires.fits c.loop-turn.queues c.next_turn.new.queues c.loop-turn.places.items c.loop-turn.free.items c.loop-turn.clock c.loop-turn._turn
-      c.loop-turn.invariant.stands c.loop-turn.invariant.frees c.deref.result.now c.deref.ensures.value c.in_ok-job.job c.in_ok-job.core c.in_ok-job.time c.in_ok-job.ensures c.job.inside.0 c.job.view_is c.cost.result c.cost.ensures;
-  queues = c.in_ok-job.ensures.taken.queues;
+      c.loop-turn.invariant.stands c.loop-turn.invariant.frees c.loop-turn.invariant.counted c.deref.result.now c.deref.ensures.value c.in_ok-job.job c.in_ok-job.core c.in_ok-job.time c.in_ok-job.ensures c.job.inside.0 c.job.view_is c.cost.result c.cost.ensures
+      c.unblock.new.self c.in_ok-unblock.ensures;
+  counted = AreCounted-turned c.args.table.now c.args.cores c.args.scenario.now c.len-count.ensures.table c.requires.fits c.loop-turn.queues c.next_turn.new.queues c.loop-turn.places.items c.loop-turn.free.items c.loop-turn.clock c.loop-turn._turn
+      c.loop-turn.invariant.stands c.loop-turn.invariant.frees c.loop-turn.invariant.counted c.deref.result.now c.deref.ensures.value c.in_ok-job.job c.in_ok-job.core c.in_ok-job.time c.in_ok-job.ensures c.job.inside.0 c.job.view_is c.cost.result c.cost.ensures
+      c.unblock.new.self c.in_ok-unblock.ensures;
+  queues = c.in_ok-unblock.ensures.kept c.in_ok-job.time c.in_ok-job.ensures.taken.queues;
 }
 
 pub returns-clause-legal : goal.returns-clause-legal

@@ -2,7 +2,7 @@ use Rattle.std.proofs.Common.{refl}
 use Rattle.std.proofs.lemmas.Result.{err_from_is_err_and}
 use Rattle.sag_engine.specs.Work.Work.{Replays}
 use Rattle.sag_engine.proofs.PlanLemmas.{follows_then, follows_halt, follows_pure}
-use Rattle.sag_engine.proofs.InputLemmas.{accepted_fits, accepted_no_edges}
+use Rattle.sag_engine.proofs.InputLemmas.{accepted_fits}
 use Rattle.sag_engine.proofs.PrintLemmas.{runs_then, runs_halt}
 use Rattle.sag_engine.proofs.command_replay.run_replay.Goals as goal
 
@@ -18,12 +18,13 @@ returns-in_err-scenario g c =
 
 pub schedule_of-requires : goal.schedule_of-requires
 schedule_of-requires g c = record {
-  no_edges = accepted_no_edges _ _ _ c.in_ok-table.ensures.end;
+  some_core = c.requires.some_core;
+  few_cores = c.requires.few_cores;
   fits = accepted_fits _ _ _ _ c.in_ok-scenario.ensures.end;
 }
 
 pub returns-in-Ok : goal.returns-in-Ok
-returns-in-Ok g c = runs_then _ (Replays c.in_ok-table.table 1 c.in_ok-scenario.scenario)
+returns-in-Ok g c = runs_then _ (Replays c.in_ok-table.table c.args.cores c.in_ok-scenario.scenario)
     (follows_then _ _ _ _ c.in_ok-table.ensures (follows_then _ _ _ _ c.in_ok-scenario.ensures (follows_pure _ _ _ _ refl)))
     c.in-Ok.ensures
     (rw c.deref.ensures.value at c.print.ensures)

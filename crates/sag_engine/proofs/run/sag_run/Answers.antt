@@ -1,5 +1,5 @@
 use Rattle.sag_engine.specs.Promises.{texts}
-use Rattle.sag_engine.proofs.RunLemmas.{answers_by, finished_by, read_cause_by, none_on_read_fault_by, write_cause_by, prefix_by, text_by, fault_text_by}
+use Rattle.sag_engine.proofs.RunLemmas.{answers_by, runs_by, finished_by, read_cause_by, none_on_read_fault_by, write_cause_by, prefix_by, text_by, fault_text_by}
 use Rattle.sag_engine.proofs.run.sag_run.Goals as goal
 
 pub returns : goal.returns
@@ -8,6 +8,7 @@ returns g c =
     let works = c.work-end.ensures in
     rw c.status_of.ensures (record {
       answer = answers_by words works;
+      runs = runs_by words works;
       finished = finished_by words works;
       read_fault = read_cause_by words works;
       none_on_read_fault = none_on_read_fault_by words works;

@@ -1,9 +1,8 @@
-use Rattle.std.proofs.Common.{◌≡◌, take}
-use Rattle.clap.specs.Walk.{texts}
+use Rattle.std.proofs.Common.{◌≡◌, map, take}
 use Rattle.clap.specs.Words.{app_of}
-use Rattle.sag_words.specs.Apps.{app_with}
+use Rattle.sag_words.specs.Apps.{app_with, argument_rule}
 use Rattle.sag_words.proofs.parse.matched.Given as goal
 
--- the places so far
-abbrev pub invariant-loop-place : goal.invariant-loop-place
-invariant-loop-place l = app_of l.command ≡ app_with l.name (texts (take l.place-index l.places))
+-- the arguments so far
+abbrev pub invariant-loop-argument : goal.invariant-loop-argument
+invariant-loop-argument l = app_of l.command ≡ app_with l.name (map argument_rule (take l.argument-index l.arguments))

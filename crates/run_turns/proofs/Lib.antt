@@ -1,0 +1,5 @@
+pub mod Left
+pub mod Part
+mod Decided
+pub mod Available
+mod Turns

@@ -1,0 +1,11 @@
+-- The numbers that options give.
+--   GivesCores   the text of `--cores`, where there is one, gives this number of cores
+use Rattle.std.specs.Prelude.{◌≡◌, ◌≤◌, ℕ, Option, None, Some}
+use Rattle.clap.specs.Words.{Text}
+use Rattle.csv_numbers.specs.Fields.{Spells}
+use Rattle.job_model.specs.declared.TheConstants.{MOST_CORES}
+
+-- the text spells a number from 1 to the most cores, as a field of a CSV file does; without a text there is one core
+abbrev pub GivesCores : Option Text → ℕ → Type 0
+GivesCores None cores = cores ≡ 1
+GivesCores (Some text) cores = Spells text cores × (1 ≤ cores) × (cores ≤ MOST_CORES)

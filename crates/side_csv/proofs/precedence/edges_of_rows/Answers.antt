@@ -1,0 +1,37 @@
+use Rattle.std.proofs.Common.{◌≡◌, ◌∙◌, ◌<◌, [], true, length, take, get_or, sym, arith, rules}
+use Rattle.std.proofs.lemmas.List.{get_or_default, take_all, take_more}
+use Rattle.std.proofs.lemmas.Result.{err_from_is_err_and}
+use Rattle.std.proofs.lemmas.Slice.Zip.{all_zipped_more}
+use Rattle.std.specs.Result.{is_ok}
+use Rattle.side_csv.specs.PrecedenceText.{NamesEdge}
+use Rattle.side_csv.proofs.PrecedenceLemmas.{one-edges, reached-edge}
+use Rattle.side_csv.proofs.precedence.edges_of_rows.Goals as goal
+
+pub returns-in_err-edge-clause-fault : goal.returns-in_err-edge-clause-fault
+returns-in_err-edge-clause-fault c =
+    let p = err_from_is_err_and c.from_residual.result c.from_residual.ensures.1 in
+    let rows = c.args.rows.now in
+    let i = c.loop-i.i in
+    let below : i < length rows = c.loop-i-test.true in
+    let row_is : c.as_slice.result.now ≡ get_or rows i [] = c.as_slice.ensures ∙ c.index-rows-i.is ∙ get_or_default rows i c.index-rows-i.result [] below in
+    rw (p.1, p.2) (λ bytes reads. c.in_err-edge.ensures.fault bytes (reached-edge c.args.table.now bytes rows i c.loop-i.edges.items below reads c.loop-i.invariant.named) (sym row_is))
+
+pub loop-i-preserved : goal.loop-i-preserved
+loop-i-preserved c =
+    let rows = c.args.rows.now in
+    let i = c.loop-i.i in
+    let below : i < length rows = c.loop-i-test.true in
+    let row_is : c.as_slice.result.now ≡ get_or rows i [] = c.as_slice.ensures ∙ c.index-rows-i.is ∙ get_or_default rows i c.index-rows-i.result [] below in
+    let good : is_ok c.push.result ≡ true = search rules in
+    let items = rw good at c.push.ensures.items in
+    let names = rw row_is at c.in_ok-edge.ensures.names in
+    rw (take_more rows i [] below, items) (record {
+      named = all_zipped_more (NamesEdge c.args.table.now) (take i rows) c.loop-i.edges.items (get_or rows i []) c.in_ok-edge.edge c.loop-i.invariant.named names;
+      table = λ more. c.in_ok-edge.ensures.table;
+    })
+
+pub returns-clause-only : goal.returns-clause-only
+returns-clause-only c t other =
+    let rows = c.args.rows.now in
+    let all : take c.loop-i.i rows ≡ rows = take_all c.loop-i.i rows (omega arith) in
+    one-edges c.args.table.now rows (λ more. c.loop-i.invariant.table (omega arith)) c.loop-i.edges.items t (rw all at c.loop-i.invariant.named) other
