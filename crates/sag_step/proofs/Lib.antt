@@ -1,0 +1,12 @@
+mod Rows
+mod PairedLists
+mod Widening
+mod TrackedEnds
+mod WindowFacts
+mod NextStates
+mod RootState
+mod SomeNext
+mod ListsOfEnds
+mod Successors
+mod Touching
+mod Sets

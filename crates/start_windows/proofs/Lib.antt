@@ -1,0 +1,8 @@
+mod ByRelease
+mod Caps
+mod Collecting
+mod EndLists
+mod Passing
+mod Rows
+mod SomeEligible
+mod Sweep

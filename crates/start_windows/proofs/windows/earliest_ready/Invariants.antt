@@ -1,0 +1,9 @@
+use Rattle.std.proofs.Common.{◌≡◌, drop, map, max}
+use Rattle.job_model.specs.Numbers.{greatest}
+use Rattle.start_windows.specs.Ends.{low_end}
+use Rattle.start_windows.specs.Window.{earliest_ready}
+use Rattle.start_windows.proofs.windows.earliest_ready.Given as goal
+
+-- with the predecessors that are left
+abbrev pub invariant-loop-no : goal.invariant-loop-no
+invariant-loop-no l = max l.ready (greatest (map (low_end l.ends.items) (drop l.no-index l.no-items))) ≡ earliest_ready l.table l.ends.items l.fn.job

@@ -1,0 +1,57 @@
+-- Windows by one number for each job, its cap: the first moment at which it may no longer start.
+--     capped c xs              the least of c and the numbers
+--     window_of est cap        from est on, and before the cap
+--     cap_over, window_over, offer_over      the cap of j and its window, were xs the candidates
+--     is_near table w x        whether x may be released by w
+--     prospect_of, AreProspects              what is looked up of candidates
+--     Collected                what a walk over some jobs has collected
+use Rattle.std.specs.Prelude.{◌≡◌, ◌≤◌, ◌<◌, ℕ, suc, Bool, List, [], ◌∷◌, ◌-◌, length, min, max, nat_lt, nat_le, map, filter, All, IfSome, Option, Some, None, if◌then◌else◌}
+use Rattle.std.specs.Option.{option_map}
+use Rattle.job_model.specs.Numbers.{least}
+use Rattle.job_model.specs.Table.{Table, job_at, has_urgency_over}
+use Rattle.sag_time.specs.Interval.{Interval}
+use Rattle.start_windows.specs.declared.StartWindow.{StartWindow}
+use Rattle.start_windows.specs.declared.eligibility.Prospect.{Prospect}
+use Rattle.start_windows.specs.Window.{is_candidate, earliest_ready, latest_ready, earliest_start, ready_beside}
+
+-- the least of c and the numbers
+abbrev pub capped : ℕ → List ℕ → ℕ
+capped c [] = c
+capped c (x ∷ xs) = min x (capped c xs)
+
+-- from est on, and before the cap
+abbrev pub window_of : ℕ → ℕ → Option StartWindow
+window_of est cap = if nat_lt est cap then Some (record { est = est; lst = cap - 1 }) else None
+
+-- the moment before which j must start, were xs the candidates, one of which certainly starts by `certain`
+abbrev pub cap_over : Table → List (ℕ × Interval) → ℕ → List ℕ → ℕ → ℕ
+cap_over table ends certain xs j = capped (suc certain) (map (ready_beside table ends j) (filter (λ x. has_urgency_over table x j) xs))
+
+-- the window of j then
+abbrev pub window_over : Table → List (ℕ × Interval) → Interval → ℕ → List ℕ → ℕ → Option StartWindow
+window_over table ends first certain xs j = window_of (earliest_start table ends first j) (cap_over table ends certain xs j)
+
+-- j with its window
+abbrev pub offer_over : Table → List (ℕ × Interval) → Interval → ℕ → List ℕ → ℕ → Option (ℕ × StartWindow)
+offer_over table ends first certain xs j = option_map (λ w. (j, w)) (window_over table ends first certain xs j)
+
+-- whether x may be released by w
+abbrev pub is_near : Table → ℕ → ℕ → Bool
+is_near table w x = nat_le (job_at table x).rmin w
+
+-- what is looked up of a candidate
+abbrev pub prospect_of : Table → List (ℕ × Interval) → ℕ → Prospect
+prospect_of table ends j = record { job = j; earliest = earliest_ready table ends j; latest = latest_ready table ends j; released = (job_at table j).rmax }
+
+-- jobs of the table, looked up
+abbrev pub AreProspects : Table → List (ℕ × Interval) → List Prospect → Type 0
+AreProspects table ends found = All (λ c. (c ≡ prospect_of table ends c.job) × (c.job < length table.jobs)) found
+
+abbrev pub jobs_of : List Prospect → List ℕ
+jobs_of found = map (λ c. c.job) found
+
+-- Of the jobs seen: the first moment at which a candidate is certainly ready, and the candidates but for some that are
+-- released too late to matter.
+pub record Collected (table : Table) (set : List ℕ) (ends : List (ℕ × Interval)) (first : Interval) (seen kept : List ℕ) (ready : Option ℕ) : Type 0 where
+  pub ready_is : ready ≡ least (map (latest_ready table ends) (filter (is_candidate table set) seen))
+  pub same_near : (w : ℕ) → IfSome ready (λ t. w ≤ max first.hi t) → filter (is_near table w) kept ≡ filter (is_near table w) (filter (is_candidate table set) seen)
