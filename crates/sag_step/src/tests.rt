@@ -94,6 +94,24 @@ fn a_step_takes_the_first_core(rt: HostRuntime) {
     assert!(rt; StateNo(1) < StateNo(2));
 }
 
+#[test]
+fn a_step_of_a_job_with_jitter_starts_at_once(rt: HostRuntime) {
+    let alloc = rt.alloc();
+    let mut rows = [job(1, 10, 10), job(2, 3, 3), job(3, 4, 4)];
+    rows[0].rmax = 5;
+    let Ok(list) = rows.to_vec(alloc) else {
+        panic!(rt; "there is memory");
+    };
+    let Ok(table) = JobTable::from_rows(alloc, list) else {
+        panic!(rt; "the rows keep the rules");
+    };
+    let Ok(Some(state)) = first_step::<Brand>(alloc, &table, 2, JobNo(0), Blank::new(1)) else {
+        panic!(rt; "the first job is eligible");
+    };
+    assert_eq!(rt; state.low().as_slice(), [0, 10].as_slice());
+    assert_eq!(rt; state.high().as_slice(), [0, 10].as_slice());
+}
+
 // Whether these times may stand in a state.
 fn in_limit(times: &[u64]) -> bool
     ensures { result ≡ list_all (λ t. nat_le t MOST_TIME) times.now }
