@@ -13,7 +13,7 @@ use Rattle.csv_numbers.specs.declared.fault.CsvFault.{CsvFault}
 use Rattle.csv_numbers.specs.declared.fault.CsvFault.TheVariants as fault
 
 -- the first records of a text stand at the front of all of them
-reached-front : (cfg : Config) (s s2 s3 : State) (xs ys zs : List ℕ) (front all : List Record) → Reached cfg s xs front s2 ys → Reached cfg s xs all s3 zs
+pub reached-front : (cfg : Config) (s s2 s3 : State) (xs ys zs : List ℕ) (front all : List Record) → Reached cfg s xs front s2 ys → Reached cfg s xs all s3 zs
     → next_record cfg s3 [] [] zs ≡ None → (tail : List Record) × (all ≡ front ++ tail)
 unfolding Reached
 reached-front cfg s s2 s3 xs ys zs [] all h a end = (all, refl)
@@ -29,7 +29,7 @@ reached-front cfg s s2 s3 xs ys zs (r ∷ front) (q ∷ all) h a end =
     (next.0, ap (λ (h : Record). h ∷ all) (sym same) ∙ ap (λ (l : List Record). r ∷ l) next.1)
 
 -- the item in the middle has a fellow
-zip-middle : {A B : Type 0} (R : A → B → Type 0) (xs : List A) (x : A) (ys : List A) (list : List B) → AllZip R (xs ++ x ∷ ys) list → (n : B) × R x n
+pub zip-middle : {A B : Type 0} (R : A → B → Type 0) (xs : List A) (x : A) (ys : List A) (list : List B) → AllZip R (xs ++ x ∷ ys) list → (n : B) × R x n
 zip-middle R [] x ys [] h = absurd h
 zip-middle R [] x ys (n ∷ list) h = (n, h.0)
 zip-middle R (y ∷ xs) x ys [] h = absurd h
@@ -43,7 +43,7 @@ field-reads Broken width column fields numbers apart reads bad =
     apart (bare bad.field) here.0 here.1 bad.broken
 
 -- a row that reads as numbers breaks no rule
-row-reads : (width : ℕ) (e : CsvFault) (fields : Record) (numbers : List ℕ) → e ≢ fault.Memory → RowReads width fields numbers → RowBreaks width e fields → ⊥
+pub row-reads : (width : ℕ) (e : CsvFault) (fields : Record) (numbers : List ℕ) → e ≢ fault.Memory → RowReads width fields numbers → RowBreaks width e fields → ⊥
 row-reads width fault.NoHeading fields numbers other reads breaks = breaks
 row-reads width fault.Memory fields numbers other reads breaks = other refl
 row-reads width (fault.Width p found) fields numbers other reads breaks = breaks.1 (sym breaks.0 ∙ reads.width_is)

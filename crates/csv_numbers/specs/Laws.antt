@@ -1,6 +1,7 @@
 -- Laws of texts of numbers.
 --     RowsAgree       the bytes of a text fix its rows
 --     RowsKeepRules   a text that reads as rows breaks no rule
+--     OneFirstFault   a text has one first fault at most
 use Rattle.std.specs.Prelude.{◌≡◌, ◌≢◌, ℕ, List}
 use Rattle.csv_numbers.specs.Rows.{FirstFault, Rows}
 use Rattle.csv_numbers.specs.declared.fault.CsvFault.{CsvFault}
@@ -14,3 +15,8 @@ RowsAgree = (bytes : List ℕ) (width : ℕ) (one other : List (List ℕ)) → R
 abbrev pub RowsKeepRules : Type 0
 RowsKeepRules =
     (bytes : List ℕ) (width : ℕ) (rows : List (List ℕ)) → Rows bytes width rows → (e : CsvFault) → e ≢ fault.Memory → ¬ FirstFault bytes width e
+
+-- A text has at most one first fault, beside want of memory.
+abbrev pub OneFirstFault : Type 0
+OneFirstFault =
+    (bytes : List ℕ) (width : ℕ) (one other : CsvFault) → one ≢ fault.Memory → other ≢ fault.Memory → FirstFault bytes width one → FirstFault bytes width other → one ≡ other

@@ -11,6 +11,6 @@ mod tests;
 
 pub use fault::CsvFault;
 pub use field::{NumberFault, read_number};
-pub use laws::{rows_agree, rows_keep_rules};
+pub use laws::{one_first_fault, rows_agree, rows_keep_rules};
 pub use rows::{NumberRow, read_numbers};
 pub use table::write_table;

@@ -1,6 +1,7 @@
 -- A job is its columns.
 use Rattle.std.proofs.Common.{◌≡◌, ◌∷◌, [], ℕ, List, ap, ap₂, map, refl}
-use Rattle.job_csv.specs.Jobs.{job_columns}
+use Rattle.csv_numbers.proofs.Exact.{one-list}
+use Rattle.job_csv.specs.Jobs.{JobRows, job_columns}
 use Rattle.job_model.specs.declared.Job.{Job}
 
 -- the job of eight columns, and of none past them
@@ -18,3 +19,7 @@ jobs-same (a ∷ jobs) (b ∷ list) e =
     let tail : map job_columns jobs ≡ map job_columns list = cc e in
     let same : a ≡ b = ap (λ (columns : List ℕ). job_from columns a) head in
     ap₂ (λ (j : Job) (l : List Job). j ∷ l) same (jobs-same jobs list tail)
+
+-- a text is of one list of jobs
+pub one-jobs : (bytes : List ℕ) (one other : List Job) → JobRows bytes one → JobRows bytes other → one ≡ other
+one-jobs bytes one other reads reads' = jobs-same one other (one-list bytes 8 (map job_columns one) (map job_columns other) reads reads')

@@ -1,1 +1,1 @@
-mod JobLemmas
+pub mod JobLemmas

@@ -7,8 +7,10 @@ ghost use Rattle.job_csv.specs.Jobs.{JobRows, job_columns};
 ghost use Rattle.job_model.specs.declared.Job.{Job};
 
 pub use csv_numbers::{CsvFault, NumberRow, read_numbers};
+pub use laws::one_job_list;
 pub use write::write_jobs;
 
+mod laws;
 #[cfg(test)]
 mod tests;
 mod write;

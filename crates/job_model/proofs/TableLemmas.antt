@@ -138,7 +138,7 @@ not_below : (m n : ℕ) → n ≤ m → nat_lt m n ≡ false
 not_below m n h = grind (arith, nat_tests)
 
 -- a job has nothing above its limit
-limits-kept : (a : Job) → IsJob a → first_above (limited a) ≡ None
+pub limits-kept : (a : Job) → IsJob a → first_above (limited a) ≡ None
 limits-kept a job =
     let one : nat_lt MOST_ARRIVAL a.rmin ≡ false = not_below MOST_ARRIVAL a.rmin (omega arith) in
     let two : nat_lt MOST_ARRIVAL a.rmax ≡ false = not_below MOST_ARRIVAL a.rmax (omega arith) in
@@ -146,7 +146,7 @@ limits-kept a job =
     let four : nat_lt MOST_COST a.cmax ≡ false = not_below MOST_COST a.cmax (omega arith) in
     rw (one, two, three, four) refl
 
-spans-kept : (a : Job) → IsJob a → first_above (spans a) ≡ None
+pub spans-kept : (a : Job) → IsJob a → first_above (spans a) ≡ None
 spans-kept a job = rw (not_below a.rmax a.rmin (omega arith), not_below a.cmax a.cmin (omega arith)) refl
 
 -- rows with a first broken rule are no table

@@ -1,6 +1,9 @@
--- Which job is more urgent, worked out: by priority, and at one priority by the IDs.
-use Rattle.std.proofs.Common.{◌≡◌, ℕ, true, false, refl}
+-- Which job is more urgent, worked out: by priority, and at one priority by the IDs; and the ranks of a table's jobs.
+use Rattle.std.proofs.Common.{◌≡◌, ℕ, true, false, [], ◌∷◌, map, refl}
 use Rattle.job_model.specs.declared.Job.{Job}
+use Rattle.job_model.specs.Numbers.{numbers_below}
+use Rattle.job_model.specs.Ranks.{rank_of}
+use Rattle.job_model.specs.Table.{table_of}
 use Rattle.job_model.specs.Urgency.{is_more_urgent}
 
 job : ℕ → ℕ → ℕ → Job
@@ -24,3 +27,8 @@ smaller_task = refl
 smaller_job : is_more_urgent (job 18446744073709551615 18446744073709551614 7) (job 18446744073709551615 18446744073709551615 7) ≡ true
 unfolding job
 smaller_job = refl
+
+-- of five jobs, with ties of priority and of task, so many are more urgent than each
+ranks : map (rank_of (table_of (job 1 3 2 ∷ job 2 1 1 ∷ job 1 2 1 ∷ job 1 1 1 ∷ job 1 0 2 ∷ []))) (numbers_below 5) ≡ 4 ∷ 2 ∷ 1 ∷ 0 ∷ 3 ∷ []
+unfolding job
+ranks = refl

@@ -1,5 +1,6 @@
 -- The first rule that precedence rows break, once each of them names two jobs: (predecessor, successor). Rows are counted from 1.
 --     edges_of rows                  the distinct edges of the rows, rising
+--     with_edges table rows          the table with those edges
 --     KeepEdgeRules rows             there are not too many, and they close no cycle
 --     ReachedEdge rows row           the row of this number, where those before it close no cycle
 --     FirstEdgeFault rows fault      the first broken rule; want of memory may come at any rows
@@ -9,11 +10,15 @@ use Rattle.job_model.specs.declared.TheConstants.{MOST_EDGES}
 use Rattle.job_model.specs.declared.fault.EdgeFault.{EdgeFault}
 use Rattle.job_model.specs.declared.fault.EdgeFault.TheVariants as fault
 use Rattle.job_model.specs.Cycles.{HoldsCycle}
-use Rattle.job_model.specs.Table.{edge_cmp}
+use Rattle.job_model.specs.Table.{Table, edge_cmp}
 
 -- the distinct edges of the rows, rising
 abbrev pub edges_of : List (ℕ × ℕ) → List (ℕ × ℕ)
 edges_of rows = fold (insert_key edge_cmp) [] rows
+
+-- the table with the distinct edges of the rows, rising
+abbrev pub with_edges : Table → List (ℕ × ℕ) → Table
+with_edges table rows = record { jobs = table.jobs; edges = edges_of rows }
 
 -- there are not too many rows, and they close no cycle
 pub record KeepEdgeRules (rows : List (ℕ × ℕ)) : Type 0 where

@@ -2,8 +2,11 @@ pub mod Numbers
 pub mod Urgency
 pub mod Neighbours
 pub mod Table
+pub mod Ranks
 pub mod TableFaults
 pub mod Cycles
 pub mod EdgeFaults
+pub mod FaultLaws
 pub mod Releases
 pub mod Scenario
+pub mod Laws

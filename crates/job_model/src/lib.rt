@@ -7,7 +7,10 @@ mod edge_rows;
 mod edge_tests;
 mod edges;
 mod fault;
+mod fault_laws;
 mod job_lists;
+mod laws;
+mod ranks;
 mod release_order;
 mod scenario;
 mod table;
@@ -15,7 +18,9 @@ mod table;
 mod tests;
 
 pub use fault::{EdgeFault, TableFault};
+pub use fault_laws::{edges_keep_rules, one_edge_fault, one_table_fault, tables_keep_rules};
 pub use job_sets::JobNo;
+pub use laws::ranks_order_jobs;
 pub use scenario::Scenario;
 pub use table::JobTable;
 

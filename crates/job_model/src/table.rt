@@ -2,14 +2,16 @@
 
 ghost use Rattle.std.specs.Prelude.{◌≡◌, ◌≢◌, ◌<◌, ◌≤◌, Contains, IfErr, IfNone, IfOk, IfSome, List, OnOk, [], length, map};
 ghost use Rattle.job_model.specs.Table.{IsJob, IsTable, has_urgency_over, id_of, job_at, predecessors, successors, table_of};
-ghost use Rattle.job_model.specs.EdgeFaults.{FirstEdgeFault, KeepEdgeRules, edges_of};
+ghost use Rattle.job_model.specs.EdgeFaults.{FirstEdgeFault, KeepEdgeRules, with_edges};
 ghost use Rattle.job_model.specs.Neighbours.{JoinJobs};
+ghost use Rattle.job_model.specs.Ranks.{rank_of};
 ghost use Rattle.job_model.specs.Releases.{IsReleaseOrder};
 ghost use Rattle.job_model.specs.TableFaults.{FirstTableFault, ReachedRow};
 ghost use Rattle.job_model.specs.TableFaults.{first_above as above};
 
 use crate::edge_rows::edges_of_rows;
 use crate::edges::Edges;
+use crate::ranks::ranks;
 use crate::release_order::release_order;
 use crate::{EdgeFault, Job, JobNo, MOST_ARRIVAL, MOST_COST, MOST_JOBS, TableFault};
 use indexmap::IndexSet;
@@ -24,10 +26,13 @@ pub struct JobTable {
     ids: IndexSet<(u64, u64)>,
     edges: Edges,
     by_release: Vec<(u64, JobNo)>,
+    // the rank of each job by urgency
+    ranks: Vec<u16>,
 }
 
 impl Model for JobTable {
     ghost use Rattle.std.specs.Prelude.{◌≡◌, map};
+    ghost use Rattle.job_model.specs.Ranks.{AreRanks};
     ghost use Rattle.job_model.specs.Releases.{IsReleaseOrder};
     ghost use Rattle.job_model.specs.Table.{IsTable, Table, id_of};
 
@@ -37,7 +42,8 @@ impl Model for JobTable {
 
     ghost invariant = { λ t. IsTable (record { jobs = t.jobs.items; edges = t.edges })
         × (t.ids.keys ≡ map id_of t.jobs.items)
-        × IsReleaseOrder (record { jobs = t.jobs.items; edges = t.edges }) t.by_release.items };
+        × IsReleaseOrder (record { jobs = t.jobs.items; edges = t.edges }) t.by_release.items
+        × AreRanks (record { jobs = t.jobs.items; edges = t.edges }) t.ranks.items };
 }
 
 // A column with its number and the greatest number that may stand there.
@@ -115,11 +121,15 @@ impl JobTable {
         let Ok(by_release) = release_order(alloc, &rows) else {
             return Err(TableFault::Memory);
         };
+        let Ok(ranks) = ranks(alloc, &rows) else {
+            return Err(TableFault::Memory);
+        };
         Ok(JobTable {
             jobs: rows,
             ids,
             edges: Edges::none(alloc),
             by_release,
+            ranks,
         })
     }
 
@@ -132,7 +142,7 @@ impl JobTable {
     ) -> Result<JobTable, (JobTable, EdgeFault)>
         requires no_edges { self.edges ≡ [] }
         requires in_range { JoinJobs (length self.jobs) rows.now }
-        ensures edges { IfOk result (λ t. t ≡ record { jobs = self.jobs; edges = edges_of rows.now }) }
+        ensures edges { IfOk result (λ t. t ≡ with_edges self rows.now) }
         ensures kept { OnOk result (KeepEdgeRules rows.now) }
         ensures table { IfOk result IsTable }
         ensures unchanged { IfErr result (λ refusal. refusal.0 ≡ self) }
@@ -215,8 +225,15 @@ impl JobTable {
         requires second { b < length self.now.jobs }
         ensures { result ≡ has_urgency_over self.now a b }
     {
-        let a = self.job(a);
-        let b = self.job(b);
-        (a.priority, a.task, a.job) < (b.priority, b.task, b.job)
+        self.rank(a) < self.rank(b)
+    }
+
+    /// How many jobs are more urgent than that one. Of two jobs the one of the smaller rank is the more urgent.
+    pub fn rank(&self, no: JobNo) -> u16
+        requires { no < length self.now.jobs }
+        ensures rank { result ≡ rank_of self.now no }
+        ensures table { IsTable self.now }
+    {
+        self.ranks[no.0 as usize]
     }
 }

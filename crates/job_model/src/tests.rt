@@ -1,4 +1,4 @@
-use crate::{Job, JobNo, JobTable, Scenario, TableFault};
+use crate::{Job, JobNo, JobTable, Scenario, TableFault, ranks_order_jobs};
 use std::alloc::{AllocError, Global};
 use std::test::Fail;
 
@@ -90,6 +90,38 @@ fn breaks_ties_by_ids(rt: HostRuntime) -> Result<(), Fail> {
     let table = table_of(rt.alloc(), &[last, urgent])?;
     assert_eq!(rt; table.len(), 2);
     assert!(rt; table.urgent(JobNo(1), JobNo(0)));
+    Ok(())
+}
+
+#[test]
+fn ranks_jobs_by_urgency(rt: HostRuntime) -> Result<(), Fail> {
+    let [first, _] = jobs();
+    let rows = [
+        Job {
+            job: 3,
+            priority: 2,
+            ..first
+        },
+        Job { task: 2, ..first },
+        Job { job: 2, ..first },
+        first,
+        Job {
+            job: 0,
+            priority: 2,
+            ..first
+        },
+    ];
+    let table = table_of(rt.alloc(), &rows)?;
+    assert_eq!(rt; table.len(), 5);
+    let ranks = [
+        table.rank(JobNo(0)),
+        table.rank(JobNo(1)),
+        table.rank(JobNo(2)),
+        table.rank(JobNo(3)),
+        table.rank(JobNo(4)),
+    ];
+    assert_eq!(rt; ranks, [4, 2, 1, 0, 3]);
+    ranks_order_jobs();
     Ok(())
 }
 

@@ -10,7 +10,7 @@ use Rattle.sag_engine.specs.Work.Work.{Replays}
 use Rattle.sag_engine.proofs.PlanLemmas.{comes_split, judged_so}
 
 -- a file that was judged and accepted
-jobs_judged : (name : List ℕ) (m : Option Contents) (table : Table) → ComesTo (jobs_plan name) m (Ok table) → (bytes : List ℕ) × JobsJudged bytes (Ok table)
+pub jobs_judged : (name : List ℕ) (m : Option Contents) (table : Table) → ComesTo (jobs_plan name) m (Ok table) → (bytes : List ℕ) × JobsJudged bytes (Ok table)
 unfolding jobs_plan
 jobs_judged name m table h =
     let s = comes_split (file_plan _ name _) _ m table h in

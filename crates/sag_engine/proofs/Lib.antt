@@ -2,4 +2,8 @@ pub mod PlanLemmas
 pub mod PrintLemmas
 pub mod FileLemmas
 pub mod InputLemmas
+pub mod PrecedenceLemmas
 pub mod RunLemmas
+pub mod OnePlan
+pub mod OneJudgement
+pub mod OneAnswer

@@ -1,7 +1,6 @@
 -- How the files of the subject are judged.
 --     JobsRefused bytes fault               the first rule that a job file breaks
 --     JobsJudged bytes end                  the table of a job file, or that rule
---     with_edges table rows                 the table with the distinct edges of the rows
 --     PrecedenceRefused table bytes fault   the first rule that a precedence file breaks
 --     PrecedenceJudged table bytes end      the table with the edges of a precedence file, or that rule
 --     told_fault table e                    what is told of a fault of a scenario file
@@ -19,7 +18,7 @@ use Rattle.job_model.specs.declared.fault.TableFault.TheVariants as table
 use Rattle.job_model.specs.declared.fault.EdgeFault.{EdgeFault}
 use Rattle.job_model.specs.declared.fault.EdgeFault.TheVariants as edge
 use Rattle.job_model.specs.Table.{Table, IsTable, job_at, table_of}
-use Rattle.job_model.specs.EdgeFaults.{FirstEdgeFault, KeepEdgeRules, edges_of}
+use Rattle.job_model.specs.EdgeFaults.{FirstEdgeFault, KeepEdgeRules, with_edges}
 use Rattle.job_model.specs.TableFaults.{FirstTableFault}
 use Rattle.job_model.specs.Scenario.{Fits}
 use Rattle.job_csv.specs.Jobs.{JobRows}
@@ -47,10 +46,6 @@ JobsRefused bytes fault = ((e : CsvFault) × (fault ≡ faults.Csv kinds.Jobs e)
 abbrev pub JobsJudged : List ℕ → Result Table Fault → Type 0
 JobsJudged bytes (Ok table) = (rows : List Job) × JobRows bytes rows × (table ≡ table_of rows) × IsTable table
 JobsJudged bytes (Err fault) = JobsRefused bytes fault
-
--- the table with the distinct edges of the rows, rising
-abbrev pub with_edges : Table → List (ℕ × ℕ) → Table
-with_edges table rows = record { jobs = table.jobs; edges = edges_of rows }
 
 -- The first rule that a precedence file breaks: a rule of CSV, or else a job that is none of the table's; or else, of rows
 -- that all name edges, a rule of edges. Want of memory is no refusal.

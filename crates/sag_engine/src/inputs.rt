@@ -1,14 +1,16 @@
 // The files of the subject, read and judged.
 
-ghost use Rattle.std.specs.Prelude.{◌≡◌, ℕ, Err, List, []};
+ghost use Rattle.std.specs.Prelude.{◌≡◌, ℕ, Err, IfOk, List, [], length};
+ghost use Rattle.job_model.specs.Neighbours.{JoinJobs};
 ghost use Rattle.sag_texts.specs.FaultTexts.{HasText};
 ghost use Rattle.sag_engine.specs.Inputs.{IsOfTable, JobsJudged, PrecedenceJudged, ScenarioJudged, jobs_plan, precedence_plan, scenario_plan, table_plan, told_fault};
+ghost use Rattle.sag_engine.specs.PrecedenceSteps.{EdgesJoined, EdgesNamed};
 ghost use Rattle.sag_engine.specs.Ends.{Follows, Judged};
 
 use crate::ends::{Halt, Refusal};
 use crate::fetch::{MOST_FILE_BYTES, fetch};
 use job_csv::{CsvFault, read_jobs};
-use job_model::{EdgeFault, JobTable, Scenario, TableFault};
+use job_model::{EdgeFault, JobNo, JobTable, Scenario, TableFault};
 use sag_edge::{FileName, Files};
 use sag_texts::{Fault, FileKind};
 use side_csv::{SideFault, read_edges, read_scenario};
@@ -38,21 +40,38 @@ fn table_of(alloc: Global, bytes: &[u8]) -> Result<JobTable, Halt>
     }
 }
 
+// The edges that the rows of a precedence file name.
+fn named_edges(alloc: Global, bytes: &[u8], table: &JobTable) -> Result<Vec<(JobNo, JobNo)>, Halt>
+    ensures edges { Judged (λ edges. edges.items) (EdgesNamed table.now bytes.now) result }
+    ensures in_range { IfOk result (λ edges. JoinJobs (length table.now.jobs) edges.items) }
+{
+    match read_edges(alloc, bytes, table) {
+        Ok(edges) => Ok(edges),
+        Err(SideFault::Memory) => Err(Halt::Memory),
+        Err(fault) => refused(Fault::Side(FileKind::Precedence, fault)),
+    }
+}
+
+// The table with those edges.
+fn joined(alloc: Global, table: JobTable, edges: &[(JobNo, JobNo)]) -> Result<JobTable, Halt>
+    requires no_edges { table.edges ≡ [] }
+    requires in_range { JoinJobs (length table.jobs) edges.now }
+    ensures { Judged (λ table. table) (EdgesJoined table edges.now) result }
+{
+    match table.with_edges(alloc, edges) {
+        Ok(table) => Ok(table),
+        Err((_, EdgeFault::Memory)) => Err(Halt::Memory),
+        Err((_, fault)) => refused(Fault::Edge(fault)),
+    }
+}
+
 // The table with the edges of a precedence file.
 fn with_precedence(alloc: Global, table: JobTable, bytes: &[u8]) -> Result<JobTable, Halt>
     requires { table.edges ≡ [] }
     ensures { Judged (λ table. table) (PrecedenceJudged table bytes.now) result }
 {
-    let edges = match read_edges(alloc, bytes, &table) {
-        Ok(edges) => edges,
-        Err(SideFault::Memory) => return Err(Halt::Memory),
-        Err(fault) => return refused(Fault::Side(FileKind::Precedence, fault)),
-    };
-    match table.with_edges(alloc, &edges) {
-        Ok(table) => Ok(table),
-        Err((_, EdgeFault::Memory)) => Err(Halt::Memory),
-        Err((_, fault)) => refused(Fault::Edge(fault)),
-    }
+    let edges = named_edges(alloc, bytes, &table)?;
+    joined(alloc, table, &edges)
 }
 
 // What is told of a fault of a scenario file: a job without a row is named by its IDs.

@@ -5,11 +5,13 @@ mod command_replay;
 mod ends;
 mod fetch;
 mod inputs;
+mod laws;
 mod outputs;
 mod run;
 mod status;
 #[cfg(test)]
 mod tests;
 
+pub use laws::{calls_agree, one_answer};
 pub use run::sag_run;
 pub use status::Status;

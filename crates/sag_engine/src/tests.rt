@@ -40,6 +40,32 @@ struct Run {
     err: MemSink,
 }
 
+impl Run {
+    // The status, and the bytes on the output and on the errors.
+    fn end(&self) -> (Status, &[u8], &[u8]) {
+        (self.status, self.out.bytes(), self.err.bytes())
+    }
+}
+
+// How a run with this status ends, with these texts on the output and on the errors.
+fn end_of<'a>(status: Status, out: &'a str, err: &'a str) -> (Status, &'a [u8], &'a [u8]) {
+    (status, out.as_bytes(), err.as_bytes())
+}
+
+// Runs `sag` over these files, where these calls of the output fail: they are counted from 1.
+fn run_into(
+    alloc: Global,
+    words: &[&str],
+    mut files: MemFiles,
+    failing: Vec<u64>,
+) -> Result<Run, AllocError> {
+    let words = words_of(alloc, words)?;
+    let mut out = MemSink::new(alloc, 1_048_576, 10, failing)?;
+    let mut err = MemSink::new(alloc, 1_048_576, 10, Vec::new(alloc))?;
+    let status = sag_run(alloc, &words, &mut files, &mut out, &mut err);
+    Ok(Run { status, out, err })
+}
+
 // Runs `sag` over files that are read 16 bytes at a time, where these reads fail: 0 is a file's beginning.
 fn run_sag(
     alloc: Global,
@@ -47,16 +73,12 @@ fn run_sag(
     files: &[(&str, &str)],
     faults: &[(&str, u64)],
 ) -> Result<Run, AllocError> {
-    let words = words_of(alloc, words)?;
     let mut failing = Vec::new(alloc);
     for (name, read) in faults {
         failing.push((FileName::from_text(alloc, name)?, *read))?;
     }
-    let mut files = MemFiles::new(files_of(alloc, files)?, 16, failing);
-    let mut out = MemSink::new(alloc, 1_048_576, 10, Vec::new(alloc))?;
-    let mut err = MemSink::new(alloc, 1_048_576, 10, Vec::new(alloc))?;
-    let status = sag_run(alloc, &words, &mut files, &mut out, &mut err);
-    Ok(Run { status, out, err })
+    let files = MemFiles::new(files_of(alloc, files)?, 16, failing);
+    run_into(alloc, words, files, Vec::new(alloc))
 }
 
 // Runs `sag replay J S`.
@@ -86,9 +108,7 @@ fn prints_schedules(rt: HostRuntime) -> Result<(), Fail> {
         ("h", "h", "Task ID,Job ID,Start,Finish,Core\n"),
     ] {
         let run = replay(rt.alloc(), jobs, scenario)?;
-        assert_eq!(rt; run.status, Status::Ok, "at {jobs}");
-        assert_eq!(rt; run.out.bytes(), schedule.as_bytes(), "at {jobs}");
-        assert_eq!(rt; run.err.bytes(), b"".as_slice(), "at {jobs}");
+        assert_eq!(rt; run.end(), end_of(Status::Ok, schedule, ""), "at {jobs}");
     }
     Ok(())
 }
@@ -170,9 +190,7 @@ fn names_the_first_refusal(rt: HostRuntime) -> Result<(), Fail> {
         ),
     ] {
         let run = replay(rt.alloc(), jobs, scenario)?;
-        assert_eq!(rt; run.status, Status::Refused, "at {text}");
-        assert_eq!(rt; run.err.bytes(), text.as_bytes(), "at {text}");
-        assert_eq!(rt; run.out.bytes(), b"".as_slice(), "at {text}");
+        assert_eq!(rt; run.end(), end_of(Status::Refused, "", text), "at {text}");
     }
     Ok(())
 }
@@ -204,9 +222,11 @@ fn runs_under_precedence(rt: HostRuntime) -> Result<(), Fail> {
         ("h", "2", free),
     ] {
         let run = replay_three(rt.alloc(), prec, cores)?;
-        assert_eq!(rt; run.status, Status::Ok, "at {prec} {cores}");
-        assert_eq!(rt; run.out.bytes(), schedule.as_bytes(), "at {prec} {cores}");
-        assert_eq!(rt; run.err.bytes(), b"".as_slice(), "at {prec} {cores}");
+        assert_eq!(rt;
+            run.end(),
+            end_of(Status::Ok, schedule, ""),
+            "at {prec} {cores}"
+        );
     }
     Ok(())
 }
@@ -239,9 +259,7 @@ fn names_the_first_refusal_of_precedence(rt: HostRuntime) -> Result<(), Fail> {
         ),
     ] {
         let run = replay_three(rt.alloc(), prec, "2")?;
-        assert_eq!(rt; run.status, Status::Refused, "at {text}");
-        assert_eq!(rt; run.err.bytes(), text.as_bytes(), "at {text}");
-        assert_eq!(rt; run.out.bytes(), b"".as_slice(), "at {text}");
+        assert_eq!(rt; run.end(), end_of(Status::Refused, "", text), "at {text}");
     }
     Ok(())
 }
@@ -253,18 +271,12 @@ fn counts_repeated_rows_of_precedence(rt: HostRuntime) -> Result<(), Fail> {
         prec.push_str("1,1,3,1\n")?;
     }
     let run = replay_three(rt.alloc(), prec.as_str(), "2")?;
-    assert_eq!(rt; run.status, Status::Refused);
-    assert_eq!(rt;
-        run.err.bytes(),
-        b"refused precedence row 1 names one job twice\n".as_slice()
-    );
+    let twice = "refused precedence row 1 names one job twice\n";
+    assert_eq!(rt; run.end(), end_of(Status::Refused, "", twice));
     prec.push_str("1,1,3,1\n")?;
     let run = replay_three(rt.alloc(), prec.as_str(), "2")?;
-    assert_eq!(rt; run.status, Status::Refused);
-    assert_eq!(rt;
-        run.err.bytes(),
-        b"refused precedence too many rows\n".as_slice()
-    );
+    let too_many = "refused precedence too many rows\n";
+    assert_eq!(rt; run.end(), end_of(Status::Refused, "", too_many));
     Ok(())
 }
 
@@ -322,50 +334,76 @@ fn tells_which_file_cannot_be_read(rt: HostRuntime) -> Result<(), Fail> {
     Ok(())
 }
 
+// Runs `sag replay` with these last words, where J, P and S are held.
+fn replay_named(alloc: Global, jobs: &str, scenario: &str, prec: &str) -> Result<Run, AllocError> {
+    let words = ["sag", "replay", jobs, scenario, prec];
+    let files = [("J", JOBS), ("P", "h"), ("S", SCENARIO)];
+    run_sag(alloc, &words, &files, &[])
+}
+
 #[test]
 fn tells_that_a_file_is_not_held(rt: HostRuntime) -> Result<(), Fail> {
-    for (words, text) in [
-        (
-            ["sag", "replay", "nowhere", "S", "--prec=P"],
-            "cannot read jobs\n",
-        ),
-        (
-            ["sag", "replay", "J", "nowhere", "--prec=P"],
-            "cannot read scenario\n",
-        ),
-        (
-            ["sag", "replay", "J", "nowhere", "--prec=nowhere"],
-            "cannot read precedence\n",
-        ),
+    for (jobs, scenario, prec, text) in [
+        ("nowhere", "S", "--prec=P", "cannot read jobs\n"),
+        ("J", "nowhere", "--prec=P", "cannot read scenario\n"),
+        ("J", "nowhere", "--prec=nowhere", "cannot read precedence\n"),
     ] {
-        let files = [("J", JOBS), ("P", "h"), ("S", SCENARIO)];
-        let run = run_sag(rt.alloc(), &words, &files, &[])?;
-        assert_eq!(rt; run.status, Status::ReadFault, "at {text}");
-        assert_eq!(rt; run.err.bytes(), text.as_bytes(), "at {text}");
+        let run = replay_named(rt.alloc(), jobs, scenario, prec)?;
+        assert_eq!(rt; run.end(), end_of(Status::ReadFault, "", text), "at {text}");
     }
     Ok(())
 }
 
+// A file of so many line feeds.
+fn line_feeds(alloc: Global, count: usize) -> Result<FileBytes, AllocError> {
+    let bytes = vec![in alloc; b'\n'; count]?;
+    Ok(FileBytes::from_vec(bytes))
+}
+
+// Runs `sag replay J S` over a job file of so many line feeds.
+fn replay_line_feeds(alloc: Global, count: usize) -> Result<Run, AllocError> {
+    let mut held = Vec::new(alloc);
+    held.push((FileName::from_text(alloc, "J")?, line_feeds(alloc, count)?))?;
+    let files = MemFiles::new(held, 65_536, Vec::new(alloc));
+    run_into(alloc, &["sag", "replay", "J", "S"], files, Vec::new(alloc))
+}
+
+#[test]
+fn refuses_a_file_above_the_limit(rt: HostRuntime) -> Result<(), Fail> {
+    for (count, text) in [
+        (16_777_216, "refused jobs no heading\n"),
+        (16_777_217, "refused jobs file too long\n"),
+    ] {
+        let run = replay_line_feeds(rt.alloc(), count)?;
+        assert_eq!(rt; run.end(), end_of(Status::Refused, "", text), "at {text}");
+    }
+    Ok(())
+}
+
+// Runs `sag replay J S`, where this call of the output fails.
+fn replay_failing(alloc: Global, call: u64) -> Result<Run, AllocError> {
+    let files = files_of(alloc, &[("J", JOBS), ("S", SCENARIO)])?;
+    let files = MemFiles::new(files, 16, Vec::new(alloc));
+    let mut failing = Vec::new(alloc);
+    failing.push(call)?;
+    run_into(alloc, &["sag", "replay", "J", "S"], files, failing)
+}
+
 #[test]
 fn writes_a_prefix_before_a_fault(rt: HostRuntime) -> Result<(), Fail> {
-    let alloc = rt.alloc();
-    let words = words_of(alloc, &["sag", "replay", "J", "S"])?;
     // 53 bytes, 10 at a time, and the end: seven calls
-    for (call, taken) in [(1, 0), (2, 10), (3, 20), (4, 30), (5, 40), (6, 50), (7, 53)] {
-        let files = files_of(alloc, &[("J", JOBS), ("S", SCENARIO)])?;
-        let mut files = MemFiles::new(files, 16, Vec::new(alloc));
-        let mut faults = Vec::new(alloc);
-        faults.push(call)?;
-        let mut out = MemSink::new(alloc, 100, 10, faults)?;
-        let mut err = MemSink::new(alloc, 100, 10, Vec::new(alloc))?;
-        let status = sag_run(alloc, &words, &mut files, &mut out, &mut err);
-        assert_eq!(rt; status, Status::WriteFault, "at {call}");
-        assert_eq!(rt;
-            Some(out.bytes()),
-            SCHEDULE.as_bytes().get(..taken),
-            "at {call}"
-        );
-        assert_eq!(rt; err.bytes(), b"cannot write\n".as_slice(), "at {call}");
+    for (call, taken) in [
+        (1, ""),
+        (2, "Task ID,Jo"),
+        (3, "Task ID,Job ID,Start"),
+        (4, "Task ID,Job ID,Start,Finish,Co"),
+        (5, "Task ID,Job ID,Start,Finish,Core\n2,1,0,3"),
+        (6, "Task ID,Job ID,Start,Finish,Core\n2,1,0,3,0\n1,1,3,5"),
+        (7, SCHEDULE),
+    ] {
+        let run = replay_failing(rt.alloc(), call)?;
+        let told = end_of(Status::WriteFault, taken, "cannot write\n");
+        assert_eq!(rt; run.end(), told, "at {call}");
     }
     Ok(())
 }
@@ -386,7 +424,7 @@ fn never_fails_over_sure_files(rt: HostRuntime) -> Result<(), Fail> {
 
 #[test]
 fn tells_the_usage(rt: HostRuntime) -> Result<(), Fail> {
-    let alloc = rt.alloc();
+    let usage = "usage: sag replay JOBS SCENARIO [--prec FILE] [--cores N]\n";
     for words in [
         ["sag"].as_slice(),
         ["sag", "analyze", "J"].as_slice(),
@@ -394,17 +432,8 @@ fn tells_the_usage(rt: HostRuntime) -> Result<(), Fail> {
         ["sag", "replay", "J", "S", "--help"].as_slice(),
         ["sag", "replay", "J", "S", "--cores", "65"].as_slice(),
     ] {
-        let words = words_of(alloc, words)?;
-        let mut files = SureFiles::new(Vec::new(alloc));
-        let mut out = MemSink::new(alloc, 100, 10, Vec::new(alloc))?;
-        let mut err = MemSink::new(alloc, 100, 10, Vec::new(alloc))?;
-        let status = sag_run(alloc, &words, &mut files, &mut out, &mut err);
-        assert_eq!(rt; status, Status::Usage);
-        assert_eq!(rt;
-            err.bytes(),
-            b"usage: sag replay JOBS SCENARIO [--prec FILE] [--cores N]\n".as_slice()
-        );
-        assert_eq!(rt; out.bytes(), b"".as_slice());
+        let run = run_sag(rt.alloc(), words, &[], &[])?;
+        assert_eq!(rt; run.end(), end_of(Status::Usage, "", usage));
     }
     Ok(())
 }

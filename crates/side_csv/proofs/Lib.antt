@@ -1,3 +1,5 @@
+pub mod FirstPrecedenceFaults
+pub mod FirstScenarioFaults
 pub mod PrecedenceLemmas
 pub mod RowLemmas
 pub mod ScenarioLemmas

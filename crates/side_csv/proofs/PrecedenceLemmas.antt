@@ -67,7 +67,7 @@ edges-in_range table (row ∷ rows) (e ∷ es) named =
     All-cons (λ (e : ℕ × ℕ). (e.0 < length table.jobs) × (e.1 < length table.jobs)) e es (named.0.predecessor.is_job, named.0.successor.is_job) (edges-in_range table rows es named.1)
 
 -- of rows that name edges each names one
-edge-here : (table : Table) (before : List (List ℕ)) (here : List ℕ) (after : List (List ℕ)) (edges : List (ℕ × ℕ)) → AllZip (NamesEdge table) (before ++ here ∷ after) edges → (e : ℕ × ℕ) × NamesEdge table here e
+pub edge-here : (table : Table) (before : List (List ℕ)) (here : List ℕ) (after : List (List ℕ)) (edges : List (ℕ × ℕ)) → AllZip (NamesEdge table) (before ++ here ∷ after) edges → (e : ℕ × ℕ) × NamesEdge table here e
 edge-here table [] here after [] named = absurd named
 edge-here table [] here after (e ∷ es) named = (e, named.0)
 edge-here table (row ∷ rows) here after [] named = absurd named
@@ -88,3 +88,8 @@ no-precedence table bytes (fault.Missing j) other first t text = first
 no-precedence table bytes (fault.Twice row earlier) other first t text = first
 no-precedence table bytes (fault.Outside row column) other first t text = first
 no-precedence table bytes fault.Memory other first t text = other refl
+
+-- a text is of one list of edges, where the IDs of the table differ
+pub precedence-same : (table : Table) (bytes : List ℕ) (one other : List (ℕ × ℕ)) → IsTable table → PrecedenceText table bytes one → PrecedenceText table bytes other → one ≡ other
+precedence-same table bytes one other is_table a b =
+    one-precedence table bytes a.rows one a.rows_are (λ t named. one-edges table a.rows (λ more. is_table) one t a.edges_are named) other b

@@ -62,7 +62,7 @@ given-contained table rows values n given j below =
     contains-row rows k (id_of (job_at table j)) there (ap ids_of (get_or_default rows k [] row there ∙ is) ∙ gives.names.ids_are)
 
 -- two rows of the same IDs are one
-index-same : (rows : List (List ℕ)) → AllPairs (λ a b. ids_of a ≢ ids_of b) rows → (i j : ℕ) → i < length rows → j < length rows → ids_of (get_or rows i []) ≡ ids_of (get_or rows j []) → i ≡ j
+pub index-same : (rows : List (List ℕ)) → AllPairs (λ a b. ids_of a ≢ ids_of b) rows → (i j : ℕ) → i < length rows → j < length rows → ids_of (get_or rows i []) ≡ ids_of (get_or rows j []) → i ≡ j
 index-same rows apart i j here there same = elim (cases_lt i j) [
   | inl less ↦ absurd (apart i j [] less there same)
   | inr more ↦ elim (cases_lt j i) [
@@ -112,7 +112,7 @@ first-csv table bytes (csv.TooBig row column) first = (λ e. cc, first)
 first-csv table bytes csv.Memory first = tt
 
 -- a good row's release and cost are within its job's intervals
-none-outside : (a : Job) (row : List ℕ) → CanRunAs a (release_in row) (cost_in row) → first_outside (intervals a row) ≡ None
+pub none-outside : (a : Job) (row : List ℕ) → CanRunAs a (release_in row) (cost_in row) → first_outside (intervals a row) ≡ None
 none-outside a row can =
     let one : nat_lt (release_in row) a.rmin ≡ false = not_below (release_in row) a.rmin can.not_before in
     let two : nat_lt a.rmax (release_in row) ≡ false = not_below a.rmax (release_in row) can.not_after in
@@ -124,12 +124,12 @@ none-outside a row can =
     not_below m n h = grind (arith, nat_tests)
 
 -- a row that names a job has IDs of the table
-names-contained : (table : Table) (row : List ℕ) (j : ℕ) → Names table row j → Contains (map id_of table.jobs) (ids_of row)
+pub names-contained : (table : Table) (row : List ℕ) (j : ℕ) → Names table row j → Contains (map id_of table.jobs) (ids_of row)
 names-contained table row j names =
     (j, omega (arith, names.is_job, length-map table.jobs id_of), get_or-map id_of table.jobs j no_job (ids_of row) names.is_job ∙ sym names.ids_are)
 
 -- of rows that keep the rules each is good
-good-here : (table : Table) (before : List (List ℕ)) (here : List ℕ) (after : List (List ℕ)) → KeepRules table (before ++ here ∷ after) → IsGood table here
+pub good-here : (table : Table) (before : List (List ℕ)) (here : List ℕ) (after : List (List ℕ)) → KeepRules table (before ++ here ∷ after) → IsGood table here
 good-here table before here after kept =
     subst (IsGood table) (get_or-append_seam before here after []) (kept.each (length before) [] (omega (arith, length-append before (here ∷ after))))
 

@@ -4,3 +4,4 @@ pub mod ScenarioFaults
 pub mod Places
 pub mod PrecedenceText
 pub mod PrecedenceFaults
+pub mod Laws

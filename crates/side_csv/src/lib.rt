@@ -2,6 +2,7 @@
 #![tactic(auto)]
 
 mod fault;
+mod laws;
 mod precedence;
 mod scenario;
 #[cfg(test)]
@@ -9,6 +10,10 @@ mod tests;
 mod write;
 
 pub use fault::SideFault;
+pub use laws::{
+    one_precedence, one_precedence_fault, one_scenario, one_scenario_fault, precedence_keeps_rules,
+    scenarios_keep_rules,
+};
 pub use precedence::read_edges;
 pub use scenario::read_scenario;
 pub use write::write_scenario;

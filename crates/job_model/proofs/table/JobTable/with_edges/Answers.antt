@@ -1,14 +1,19 @@
 use Rattle.std.proofs.Common.{◌≡◌, ap}
 use Rattle.job_model.specs.Table.{Table}
 use Rattle.job_model.proofs.EdgeLemmas.{IsTable-edges, no-rules}
+use Rattle.job_model.proofs.RankLemmas.{AreRanks-edges}
 use Rattle.job_model.proofs.ReleaseLemmas.{IsReleaseOrder-edges}
 use Rattle.job_model.proofs.table.JobTable.with_edges.Goals as goal
 
 pub invariant_of-self : goal.invariant_of-self
 invariant_of-self c =
     let jobs : c.self.inside.jobs.items ≡ c.args.self.jobs = ap (λ (t : Table). t.jobs) c.self.view_is in
-    let table = IsTable-edges c.args.self c.args.rows.now c.len.ensures.table c.requires.in_range c.in-Ok.ensures.kept in
-    (rw (c.in-Ok.ensures.edges, jobs) table, c.self.invariant.1, IsReleaseOrder-edges c.self.inside.jobs.items c.self.inside.edges c.in-Ok.edges c.self.inside.by_release.items c.self.invariant.2)
+    let table = IsTable-edges c.args.self c.args.rows.now c.len.ensures.table c.requires.in_range c.in-Ok.ensures.kept in (
+      rw (c.in-Ok.ensures.edges, jobs) table,
+      c.self.invariant.1,
+      IsReleaseOrder-edges c.self.inside.jobs.items c.self.inside.edges c.in-Ok.edges c.self.inside.by_release.items c.self.invariant.2,
+      AreRanks-edges c.self.inside.jobs.items c.self.inside.edges c.in-Ok.edges c.self.inside.ranks.items c.self.invariant.3,
+    )
 
 pub returns-in-Ok-clause-table : goal.returns-in-Ok-clause-table
 returns-in-Ok-clause-table c =

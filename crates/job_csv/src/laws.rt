@@ -1,0 +1,8 @@
+// Laws of job files.
+
+ghost use Rattle.job_csv.specs.Laws.{OneJobList};
+
+/// The bytes of a job file fix its jobs.
+pub fn one_job_list()
+    ensures { OneJobList }
+{}

@@ -1,0 +1,48 @@
+-- Laws of precedence files and of scenario files.
+--     OnePrecedence          the bytes of a precedence file fix its edges
+--     OnePrecedenceFault     it has one first broken rule at most
+--     PrecedenceKeepsRules   a file that names edges breaks none
+--     OneScenario            the bytes of a scenario file fix the scenario
+--     OneScenarioFault       it has one first broken rule at most
+--     ScenariosKeepRules     a file that gives a scenario breaks none
+use Rattle.std.specs.Prelude.{◌≡◌, ◌≢◌, ℕ, List}
+use Rattle.job_model.specs.Table.{IsTable, Table}
+use Rattle.side_csv.specs.PrecedenceFaults.{FirstPrecedenceFault}
+use Rattle.side_csv.specs.PrecedenceText.{PrecedenceText}
+use Rattle.side_csv.specs.ScenarioFaults.{FirstSideFault}
+use Rattle.side_csv.specs.ScenarioText.{ScenarioText}
+use Rattle.side_csv.specs.declared.fault.SideFault.{SideFault}
+use Rattle.side_csv.specs.declared.fault.SideFault.TheVariants as fault
+
+-- The bytes of a precedence file fix its edges.
+abbrev pub OnePrecedence : Type 0
+OnePrecedence =
+    (table : Table) (bytes : List ℕ) (one other : List (ℕ × ℕ)) → IsTable table → PrecedenceText table bytes one → PrecedenceText table bytes other → one ≡ other
+
+-- A precedence file has at most one first broken rule, beside want of memory.
+abbrev pub OnePrecedenceFault : Type 0
+OnePrecedenceFault =
+    (table : Table) (bytes : List ℕ) (one other : SideFault) → one ≢ fault.Memory → other ≢ fault.Memory →
+    FirstPrecedenceFault table bytes one → FirstPrecedenceFault table bytes other → one ≡ other
+
+-- A precedence file whose rows name edges breaks no rule.
+abbrev pub PrecedenceKeepsRules : Type 0
+PrecedenceKeepsRules =
+    (table : Table) (bytes : List ℕ) (edges : List (ℕ × ℕ)) → PrecedenceText table bytes edges →
+    (e : SideFault) → e ≢ fault.Memory → ¬ FirstPrecedenceFault table bytes e
+
+-- The bytes of a scenario file fix the scenario.
+abbrev pub OneScenario : Type 0
+OneScenario = (table : Table) (bytes : List ℕ) (one other : List (ℕ × ℕ)) → ScenarioText table bytes one → ScenarioText table bytes other → one ≡ other
+
+-- A scenario file has at most one first broken rule, beside want of memory.
+abbrev pub OneScenarioFault : Type 0
+OneScenarioFault =
+    (table : Table) (bytes : List ℕ) (one other : SideFault) → IsTable table → one ≢ fault.Memory → other ≢ fault.Memory →
+    FirstSideFault table bytes one → FirstSideFault table bytes other → one ≡ other
+
+-- A scenario file that gives a scenario breaks no rule.
+abbrev pub ScenariosKeepRules : Type 0
+ScenariosKeepRules =
+    (table : Table) (bytes : List ℕ) (scenario : List (ℕ × ℕ)) → IsTable table → ScenarioText table bytes scenario →
+    (e : SideFault) → e ≢ fault.Memory → ¬ FirstSideFault table bytes e
