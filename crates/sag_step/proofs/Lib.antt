@@ -1,10 +1,11 @@
 mod Rows
-mod PairedLists
-mod Widening
-mod TrackedEnds
-mod WindowFacts
-mod NextStates
+mod WorkedLevels
+pub mod Widening
+pub mod TrackedEnds
+pub mod NextStates
+pub mod ShapeTest
 mod RootState
+mod Walks
 mod SomeNext
 mod ListsOfEnds
 mod Successors

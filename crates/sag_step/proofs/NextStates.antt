@@ -1,5 +1,5 @@
 -- The next state is a state, and its numbers are greater by one job's cost at most.
-use Rattle.std.proofs.Common.{◌≡◌, ℕ, suc, ◌+◌, ◌<◌, ◌≤◌, Bool, true, false, cond, List, [], ◌∷◌, length, map, filter, max, refl, ap, sym, ◌∙◌, arith, Less, Equal, Greater}
+use Rattle.std.proofs.Common.{◌≡◌, ℕ, suc, ◌+◌, ◌<◌, ◌≤◌, Bool, true, false, cond, List, [], ◌∷◌, length, filter, refl, ap, sym, ◌∙◌, arith, Less, Equal, Greater}
 use Rattle.std.specs.Prelude.{nat_le, slice_index, Some}
 use Rattle.std.specs.List.{list_all}
 use Rattle.std.specs.Map.{keys_of}
@@ -12,7 +12,7 @@ use Rattle.job_sets.proofs.Members.{is_member-from_filter}
 use Rattle.job_model.specs.declared.TheConstants.{MOST_ARRIVAL, MOST_COST}
 use Rattle.job_model.specs.Table.{Table, IsTable, IsJob, job_at, no_job}
 use Rattle.sag_time.specs.Interval.{Interval}
-use Rattle.sag_time.specs.Sorted.{sorted_with, after_start}
+use Rattle.sag_time.proofs.Limits.{up_to, all-after_start, all-weaker}
 use Rattle.sag_time.proofs.SortedLists.{is_sorted-after_start, length-after_start, pointwise-after_start}
 use Rattle.start_windows.specs.declared.StartWindow.{StartWindow}
 use Rattle.sag_step.specs.declared.TheConstants.{MOST_TIME, MOST_STEP_TIME}
@@ -22,12 +22,12 @@ use Rattle.sag_step.specs.Next.{finish_interval, next}
 use Rattle.sag_step.specs.Laws as law
 use Rattle.job_sets.proofs.Additions.{IsSubset-with_number, few_members, length-with_number}
 use Rattle.sag_step.proofs.TrackedEnds.{keys_of-still_tracked}
-use Rattle.sag_step.proofs.WindowFacts.{IsWindow, IsWindow-from, certain_start-le}
+use Rattle.start_windows.proofs.WindowFacts.{IsWindow, IsWindow-from, certain_start-le}
 
 -- ---- a test of each item
 
 module _ {X : Type 0} (test : X → Bool) where
-  all-filter : (p : X → Bool) (xs : List X) → list_all test xs ≡ true → list_all test (filter p xs) ≡ true
+  pub all-filter : (p : X → Bool) (xs : List X) → list_all test xs ≡ true → list_all test (filter p xs) ≡ true
   all-filter p [] all = refl
   all-filter p (x ∷ xs) all =
       let parts = and_parts (test x) (list_all test xs) all in
@@ -38,7 +38,7 @@ module _ {X : Type 0} (test : X → Bool) where
       ]
 
 -- a test of the interval alone
-all-insert_entry : (test : Interval → Bool) (es : List (ℕ × Interval)) (j : ℕ) (v : Interval) → list_all (λ e. test e.1) es ≡ true → test v ≡ true →
+pub all-insert_entry : (test : Interval → Bool) (es : List (ℕ × Interval)) (j : ℕ) (v : Interval) → list_all (λ e. test e.1) es ≡ true → test v ≡ true →
     list_all (λ e. test e.1) (insert_entry nat_cmp es j v) ≡ true
 all-insert_entry test [] j v all new = and_from (test v) true new refl
 all-insert_entry test (e ∷ es) j v all new =
@@ -50,41 +50,10 @@ all-insert_entry test (e ∷ es) j v all new =
       | Greater ↦ and_from (test e.1) (list_all (λ e. test e.1) (insert_entry nat_cmp es j v)) parts.0 rest
     ]
 
-abbrev up_to : ℕ → ℕ → Bool
-up_to limit t = nat_le t limit
-
-all-sorted_with : (limit x : ℕ) (ys : List ℕ) → x ≤ limit → list_all (up_to limit) ys ≡ true → list_all (up_to limit) (sorted_with x ys) ≡ true
-all-sorted_with limit x [] low all = and_from (nat_le x limit) true (le-leb x limit low) refl
-all-sorted_with limit x (y ∷ ys) low all =
-    let parts = and_parts (nat_le y limit) (list_all (up_to limit) ys) all in
-    let rest = all-sorted_with limit x ys low parts.1 in
-    elim (nat_le x y) as (λ b. list_all (up_to limit) (cond b (x ∷ y ∷ ys) (y ∷ sorted_with x ys)) ≡ true) [
-      | true ↦ and_from (nat_le x limit) (list_all (up_to limit) (y ∷ ys)) (le-leb x limit low) all
-      | false ↦ and_from (nat_le y limit) (list_all (up_to limit) (sorted_with x ys)) parts.0 rest
-    ]
-
-all-raised : (limit more floor : ℕ) (xs : List ℕ) → floor ≤ limit → list_all (up_to limit) xs ≡ true → list_all (up_to (limit + more)) (map (max floor) xs) ≡ true
-all-raised limit more floor [] low all = refl
-all-raised limit more floor (x ∷ xs) low all =
-    let parts = and_parts (nat_le x limit) (list_all (up_to limit) xs) all in
-    and_from (nat_le (max floor x) (limit + more)) (list_all (up_to (limit + more)) (map (max floor) xs))
-    (le-leb (max floor x) (limit + more) (omega (arith, low, leb-true x limit parts.0))) (all-raised limit more floor xs low parts.1)
-
-all-after_start : (limit more floor end : ℕ) (xs : List ℕ) → floor ≤ limit → end ≤ limit + more → list_all (up_to limit) xs ≡ true → list_all (up_to (limit + more)) (after_start floor end xs) ≡ true
-all-after_start limit more floor end [] low late all = all-sorted_with (limit + more) end [] late refl
-all-after_start limit more floor end (x ∷ xs) low late all =
-    all-sorted_with (limit + more) end (map (max floor) xs) late (all-raised limit more floor xs low (and_parts (nat_le x limit) (list_all (up_to limit) xs) all).1)
-
-all-weaker : (limit wider : ℕ) (xs : List ℕ) → limit ≤ wider → list_all (up_to limit) xs ≡ true → list_all (up_to wider) xs ≡ true
-all-weaker limit wider [] more all = refl
-all-weaker limit wider (x ∷ xs) more all =
-    let parts = and_parts (nat_le x limit) (list_all (up_to limit) xs) all in
-    and_from (nat_le x wider) (list_all (up_to wider) xs) (le-leb x wider (omega (arith, more, leb-true x limit parts.0))) (all-weaker limit wider xs more parts.1)
-
-abbrev ends_up_to : ℕ → ℕ × Interval → Bool
+abbrev pub ends_up_to : ℕ → ℕ × Interval → Bool
 ends_up_to limit e = nat_le e.1.hi limit
 
-ends-weaker : (limit wider : ℕ) (es : List (ℕ × Interval)) → limit ≤ wider → list_all (ends_up_to limit) es ≡ true → list_all (ends_up_to wider) es ≡ true
+pub ends-weaker : (limit wider : ℕ) (es : List (ℕ × Interval)) → limit ≤ wider → list_all (ends_up_to limit) es ≡ true → list_all (ends_up_to wider) es ≡ true
 ends-weaker limit wider [] more all = refl
 ends-weaker limit wider (e ∷ es) more all =
     let parts = and_parts (nat_le e.1.hi limit) (list_all (ends_up_to limit) es) all in
@@ -100,16 +69,16 @@ IsUpTo-weaker limit wider state more within = record {
 -- ---- the next state
 
 module _ (table : Table) (state : SystemState) (j : ℕ) (window : StartWindow) (is_table : IsTable table) (eligible : state_window table state j ≡ Some window) where
-  is_window : IsWindow table state.set.members state.ends (first_core state) j window
+  pub is_window : IsWindow table state.set.members state.ends (first_core state) j window
   is_window = IsWindow-from table state.set.members state.ends (first_core state) j window eligible
 
-  own_job : IsJob (job_at table j)
+  pub own_job : IsJob (job_at table j)
   own_job = All-get_or IsJob table.jobs j no_job is_window.is_job is_table.jobs
 
-  abbrev finish : Interval
+  abbrev pub finish : Interval
   finish = finish_interval table j window
 
-  finish_order : finish.lo ≤ finish.hi
+  pub finish_order : finish.lo ≤ finish.hi
   finish_order = omega (arith, is_window.in_order, own_job.costs)
 
   module _ (m : ℕ) (is_state : IsState table m state) where

@@ -15,7 +15,7 @@ use Rattle.sag_step.specs.State.{SystemState, tracked_jobs}
 use Rattle.sag_step.specs.Shape.{IsState, IsUpTo}
 use Rattle.sag_step.specs.Widen.{same_set, state_hull, end_hull, end_covers, widens, AreComparable}
 use Rattle.sag_step.specs.Laws as law
-use Rattle.sag_step.proofs.PairedLists.{pointwise-back, pointwise-itself, pointwise-trans, pointwise-zip_left, pointwise-zip_right, pointwise-zip, list_all-zip}
+use Rattle.sag_time.proofs.PairedLists.{pointwise-back, pointwise-itself, pointwise-trans, pointwise-zip_left, pointwise-zip_right, pointwise-zip, list_all-zip}
 
 -- ---- widening, by its parts
 
@@ -41,25 +41,25 @@ module _ (a b : SystemState) where
 
 -- ---- an order
 
-nat_le-itself : (n : ℕ) → nat_le n n ≡ true
+pub nat_le-itself : (n : ℕ) → nat_le n n ≡ true
 nat_le-itself n = le-leb n n (omega arith)
 
-nat_le-trans : (x y z : ℕ) → nat_le x y ≡ true → nat_le y z ≡ true → nat_le x z ≡ true
+pub nat_le-trans : (x y z : ℕ) → nat_le x y ≡ true → nat_le y z ≡ true → nat_le x z ≡ true
 nat_le-trans x y z h k = le-leb x z (omega (arith, leb-true x y h, leb-true y z k))
 
-end_covers-itself : (e : ℕ × Interval) → end_covers e e ≡ true
+pub end_covers-itself : (e : ℕ × Interval) → end_covers e e ≡ true
 end_covers-itself e = and_from (e.0 == e.0) (covers e.1 e.1) (eq-eqb e.0 e.0 refl) (covers-itself e.1)
 
-end_covers-trans : (d e f : ℕ × Interval) → end_covers d e ≡ true → end_covers e f ≡ true → end_covers d f ≡ true
+pub end_covers-trans : (d e f : ℕ × Interval) → end_covers d e ≡ true → end_covers e f ≡ true → end_covers d f ≡ true
 end_covers-trans d e f h k =
     let s = and_parts (d.0 == e.0) (covers d.1 e.1) h in
     let t = and_parts (e.0 == f.0) (covers e.1 f.1) k in
     and_from (d.0 == f.0) (covers d.1 f.1) (eq-eqb d.0 f.0 (eqb-true d.0 e.0 s.0 ∙ eqb-true e.0 f.0 t.0)) (covers-trans d.1 e.1 f.1 s.1 t.1)
 
-same_members : (xs ys : List ℕ) → pointwise nat_eq xs ys ≡ true → xs ≡ ys
+pub same_members : (xs ys : List ℕ) → pointwise nat_eq xs ys ≡ true → xs ≡ ys
 same_members xs ys = (bytes_decides xs ys).0
 
-nat_eq-itself : (xs : List ℕ) → pointwise nat_eq xs xs ≡ true
+pub nat_eq-itself : (xs : List ℕ) → pointwise nat_eq xs xs ≡ true
 nat_eq-itself xs = (bytes_decides xs xs).1 refl
 
 pub widening_is_reflexive : law.WideningIsReflexive

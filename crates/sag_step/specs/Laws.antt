@@ -1,4 +1,5 @@
 -- Laws of states.
+--     ShapeIsTested            the test of the shape tells exactly whether it is there
 --     RootIsShaped             the root can stand in memory
 --     SomeJobIsEligible        a state that has an undispatched job has a next state
 --     NextIsState              the next state is a state
@@ -9,15 +10,19 @@
 --     WideningIsReflexive, WideningIsTransitive
 --     HullIsLeast              the hull of comparable states of one set is the least state that widens both
 --     HullIsShaped             the hull of two states that can stand in memory can
-use Rattle.std.specs.Prelude.{◌≡◌, ℕ, ◌+◌, ◌<◌, ◌≤◌, length, IsSome, IsTrue, Some}
+use Rattle.std.specs.Prelude.{◌≡◌, ℕ, ◌+◌, ◌<◌, ◌≤◌, ◌↔◌, length, IsSome, IsTrue, Some}
 use Rattle.job_model.specs.declared.TheConstants.{MOST_ARRIVAL, MOST_COST}
 use Rattle.job_model.specs.Table.{Table, IsTable}
 use Rattle.start_windows.specs.declared.StartWindow.{StartWindow}
 use Rattle.sag_step.specs.declared.TheConstants.{MOST_STEP_TIME}
 use Rattle.sag_step.specs.State.{SystemState, root, state_window}
-use Rattle.sag_step.specs.Shape.{IsState, IsUpTo, Shaped}
+use Rattle.sag_step.specs.Shape.{HasShape, has_shape, IsState, IsUpTo, Shaped}
 use Rattle.sag_step.specs.Next.{next}
 use Rattle.sag_step.specs.Widen.{same_set, state_hull, widens, AreComparable}
+
+-- The test of the shape passes exactly where the shape is there.
+abbrev pub ShapeIsTested : Type 0
+ShapeIsTested = (table : Table) (m : ℕ) (state : SystemState) → IsTrue (has_shape table m state) ↔ HasShape table m state
 
 -- The root can stand in memory.
 abbrev pub RootIsShaped : Type 0

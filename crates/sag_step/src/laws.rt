@@ -1,6 +1,11 @@
 // Laws of states.
 
-ghost use Rattle.sag_step.specs.Laws.{HullIsLeast, HullIsShaped, NextIsShaped, NextIsState, NextIsUpTo, RootIsShaped, ScratchHasRoom, ShapedAreComparable, SomeJobIsEligible, WideningIsReflexive, WideningIsTransitive};
+ghost use Rattle.sag_step.specs.Laws.{HullIsLeast, HullIsShaped, NextIsShaped, NextIsState, NextIsUpTo, RootIsShaped, ScratchHasRoom, ShapeIsTested, ShapedAreComparable, SomeJobIsEligible, WideningIsReflexive, WideningIsTransitive};
+
+/// The test of the shape passes exactly where the shape is there.
+pub fn shape_is_tested()
+    ensures { ShapeIsTested }
+{}
 
 /// The root can stand in memory.
 pub fn root_is_shaped()

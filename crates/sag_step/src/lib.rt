@@ -10,8 +10,8 @@ mod tests;
 
 pub use laws::{
     hull_is_least, hull_is_shaped, next_is_shaped, next_is_state, next_is_up_to, root_is_shaped,
-    scratch_has_room, shaped_are_comparable, some_job_is_eligible, widening_is_reflexive,
-    widening_is_transitive,
+    scratch_has_room, shape_is_tested, shaped_are_comparable, some_job_is_eligible,
+    widening_is_reflexive, widening_is_transitive,
 };
 pub use state::State;
 use std::marker::Model;

@@ -1,4 +1,4 @@
-ghost use Rattle.std.specs.Prelude.{◌≡◌, ◌<◌, IfOk, IfSome, IsTrue, nat_le};
+ghost use Rattle.std.specs.Prelude.{◌≡◌, ◌<◌, ◌≤◌, IfOk, IfSome, IsTrue, length, nat_le};
 ghost use Rattle.std.specs.List.{list_all};
 ghost use Rattle.sag_step.specs.Shape.{Shaped};
 ghost use Rattle.sag_step.specs.declared.TheConstants.{MOST_TIME};
@@ -29,40 +29,64 @@ fn job(task: u64, cmin: u64, cmax: u64) -> Job {
     }
 }
 
-// Three jobs, of which the last waits for the first.
-fn table(alloc: Global) -> Option<JobTable> {
-    let rows = [job(1, 2, 4), job(2, 1, 1), job(3, 1, 2)];
+// The table of these rows, in which that job waits for the first.
+fn waiting(alloc: Global, rows: &[Job], after: JobNo) -> Option<JobTable> {
     let table = JobTable::from_rows(alloc, rows.to_vec(alloc).ok()?).ok()?;
-    let edges = [(JobNo(0), JobNo(2))];
+    if after.0 >= table.len() {
+        return None;
+    }
+    let edges = [(JobNo(0), after)];
     table.with_edges(alloc, &edges).ok()
 }
 
-// The state after the job, if it may be the first to start.
-fn first_step<L: Ledger>(
+// Three jobs, of which the last waits for the first.
+fn table(alloc: Global) -> Option<JobTable> {
+    waiting(alloc, &[job(1, 2, 4), job(2, 1, 1), job(3, 1, 2)], JobNo(2))
+}
+
+// The state after these jobs have started one after another, if each may be the next to start.
+fn walk<L: Ledger>(
     alloc: Global,
     table: &JobTable,
     cores: u16,
-    no: JobNo,
+    path: &[JobNo],
     blank: Blank,
 ) -> Result<Option<State>, AllocError>
     requires name { blank.name ≡ L.name }
     requires parts { blank.parts ≡ L.parts }
     requires some { 0 < L.parts }
     requires cores { 0 < cores }
+    requires short { length path.now ≤ 3 }
+    ensures { IfOk result (λ end. IfSome end (λ s. Shaped table.now cores s.state)) }
 {
-    if no.0 >= table.len() {
-        return Ok(None);
-    }
     root_is_shaped();
+    next_is_state();
+    next_is_up_to();
     scratch_has_room();
-    let root = State::root(alloc, table, cores)?;
-    let mut next = State::scratch(alloc, table, cores)?;
-    let Some(found) = window(table, root.set(), root.ends(), root.first_core(), no) else {
-        return Ok(None);
-    };
+    let mut state = State::root(alloc, table, cores)?;
     let mut steps = Steps::<L>::new(blank);
-    root.step_into(table, no, found, &mut next, &mut steps);
-    Ok(Some(next))
+    for place in 0..path.len() {
+        let no = path[place];
+        if no.0 >= table.len() {
+            return Ok(None);
+        }
+        let first = state.first_core();
+        let Some(found) = window(table, state.set(), state.ends(), first, no) else {
+            return Ok(None);
+        };
+        let mut next = State::scratch(alloc, table, cores)?;
+        state.step_into(table, no, found, &mut next, &mut steps);
+        state = next;
+    }
+    Ok(Some(state))
+}
+
+// The state that this path leads to on two cores.
+fn end_of(alloc: Global, table: &JobTable, path: &[JobNo]) -> Option<State>
+    requires { length path.now ≤ 3 }
+    ensures { IfSome result (λ s. Shaped table.now 2 s.state) }
+{
+    walk::<Brand>(alloc, table, 2, path, Blank::new(1)).ok()?
 }
 
 #[test]
@@ -71,11 +95,8 @@ fn a_step_takes_the_first_core(rt: HostRuntime) {
     let Some(table) = table(alloc) else {
         panic!(rt; "the rows keep the rules");
     };
-    let Ok(no_state) = first_step::<Brand>(alloc, &table, 2, JobNo(2), Blank::new(1)) else {
-        panic!(rt; "there is memory");
-    };
-    assert!(rt; no_state.is_none());
-    let Ok(Some(state)) = first_step::<Brand>(alloc, &table, 2, JobNo(0), Blank::new(1)) else {
+    assert!(rt; end_of(alloc, &table, &[JobNo(2)]).is_none());
+    let Some(state) = end_of(alloc, &table, &[JobNo(0)]) else {
         panic!(rt; "the first job is eligible");
     };
     assert_eq!(rt; state.low().as_slice(), [0, 2].as_slice());
@@ -105,7 +126,7 @@ fn a_step_of_a_job_with_jitter_starts_at_once(rt: HostRuntime) {
     let Ok(table) = JobTable::from_rows(alloc, list) else {
         panic!(rt; "the rows keep the rules");
     };
-    let Ok(Some(state)) = first_step::<Brand>(alloc, &table, 2, JobNo(0), Blank::new(1)) else {
+    let Some(state) = end_of(alloc, &table, &[JobNo(0)]) else {
         panic!(rt; "the first job is eligible");
     };
     assert_eq!(rt; state.low().as_slice(), [0, 10].as_slice());
@@ -262,4 +283,67 @@ fn states_are_compared_and_merged(rt: HostRuntime) {
     hull_is_least();
     widening_is_reflexive();
     widening_is_transitive();
+}
+
+// Whether the path leads to these availabilities of two cores and this end of the first job.
+fn leads_to(
+    alloc: Global,
+    table: &JobTable,
+    path: &[JobNo],
+    low: [u64; 2],
+    high: [u64; 2],
+    end: Option<Span>,
+) -> bool
+    requires { length path.now ≤ 3 }
+{
+    let Some(state) = end_of(alloc, table, path) else {
+        return false;
+    };
+    shows(&state, low, high, end)
+}
+
+// Whether the state has these availabilities of two cores and this end of the first job.
+fn shows(state: &State, low: [u64; 2], high: [u64; 2], end: Option<Span>) -> bool {
+    state.low().as_slice() == low.as_slice()
+        && state.high().as_slice() == high.as_slice()
+        && state.ends().get(JobNo(0)) == end
+}
+
+// Three jobs of which the second waits for the first, which may be released after the third has started.
+fn late_table(alloc: Global) -> Option<JobTable> {
+    let mut late = job(1, 2, 4);
+    late.rmax = 1;
+    waiting(alloc, &[late, job(2, 1, 1), job(3, 1, 1)], JobNo(1))
+}
+
+// The state of one path after it has absorbed that of another which it touches and does not cover.
+fn merged(alloc: Global, table: &JobTable, one: &[JobNo], other: &[JobNo]) -> Option<State>
+    requires one { length one.now ≤ 3 }
+    requires other { length other.now ≤ 3 }
+{
+    let mut state = end_of(alloc, table, one)?;
+    let more = end_of(alloc, table, other)?;
+    if beside(table, 2, &mut state, &more) != (true, false) {
+        return None;
+    }
+    Some(state)
+}
+
+#[test]
+fn ends_are_kept_and_widened_until_nobody_waits(rt: HostRuntime) {
+    let alloc = rt.alloc();
+    let Some(table) = late_table(alloc) else {
+        panic!(rt; "the rows keep the rules");
+    };
+    let sooner = [JobNo(0), JobNo(2)];
+    let later = [JobNo(2), JobNo(0)];
+    let all = [JobNo(0), JobNo(2), JobNo(1)];
+    assert!(rt; leads_to(alloc, &table, &sooner, [1, 2], [1, 4], Span::new(2, 4)));
+    assert!(rt; leads_to(alloc, &table, &later, [1, 2], [1, 5], Span::new(2, 5)));
+    assert!(rt; leads_to(alloc, &table, &all, [2, 3], [4, 5], None));
+    assert!(rt; merged(alloc, &table, &later, &sooner).is_none());
+    let Some(state) = merged(alloc, &table, &sooner, &later) else {
+        panic!(rt; "they touch");
+    };
+    assert!(rt; shows(&state, [1, 2], [1, 5], Span::new(2, 5)));
 }

@@ -6,4 +6,6 @@ pub mod SortedLists
 pub mod SortedCounts
 mod WrittenBack
 pub mod ZippedLists
+pub mod PairedLists
+pub mod Limits
 mod Worked

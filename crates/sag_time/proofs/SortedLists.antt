@@ -60,7 +60,7 @@ length-sorted_with x (y ∷ ys) =
       | false ↦ omega (arith, length-sorted_with x ys)
     ]
 
-list_all-sorted_with : (p : ℕ → Bool) (x : ℕ) (ys : List ℕ) → p x ≡ true → list_all p ys ≡ true → list_all p (sorted_with x ys) ≡ true
+pub list_all-sorted_with : (p : ℕ → Bool) (x : ℕ) (ys : List ℕ) → p x ≡ true → list_all p ys ≡ true → list_all p (sorted_with x ys) ≡ true
 list_all-sorted_with p x [] px all = and_from (p x) true px refl
 list_all-sorted_with p x (y ∷ ys) px all =
     let parts = and_parts (p y) (list_all p ys) all in
@@ -162,7 +162,7 @@ list_all-from_places x (y ∷ ys) above =
     and_from (nat_le x y) (list_all (nat_le x) ys) (le-leb x y (above 0 (omega arith)))
     (list_all-from_places x ys (λ k h. above (suc k) (omega (arith, h))))
 
-is_sorted-from_places : (xs : List ℕ) → ((i j : ℕ) → i ≤ j → j < length xs → get_or xs i 0 ≤ get_or xs j 0) → is_sorted xs ≡ true
+pub is_sorted-from_places : (xs : List ℕ) → ((i j : ℕ) → i ≤ j → j < length xs → get_or xs i 0 ≤ get_or xs j 0) → is_sorted xs ≡ true
 is_sorted-from_places [] up = refl
 is_sorted-from_places (x ∷ xs) up =
     and_from (list_all (nat_le x) xs) (is_sorted xs)

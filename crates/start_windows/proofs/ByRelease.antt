@@ -1,130 +1,25 @@
 -- A walk over the jobs by rising release, that stops early: what it has collected, in rising order of the numbers.
-use Rattle.std.proofs.Common.{◌≡◌, ℕ, zero, suc, ◌+◌, ◌<◌, ◌≤◌, Bool, true, false, cond, List, [], ◌∷◌, ◌++◌, map, min, max, refl, ap, ◌∙◌, sym, subst, arith, Option, Some, None, ltb, eqb, length, get_or}
-use Rattle.start_windows.specs.declared.eligibility.Prospect.{Prospect}
+use Rattle.std.proofs.Common.{◌≡◌, ℕ, ◌+◌, ◌<◌, ◌≤◌, Bool, true, false, cond, List, [], ◌∷◌, ◌++◌, map, min, max, refl, ap, ◌∙◌, sym, subst, arith, Option, Some, None, ltb, length, get_or}
 use Rattle.std.specs.Prelude.{filter, IfSome, IsSomeAnd, IsPermutation, unwrap_or, ◌&&◌}
 use Rattle.std.specs.Option.{option_map_or}
-use Rattle.std.specs.List.{AllByRecursion, sum_by, range_with_len}
-use Rattle.std.specs.List.Sorted.{IsNonDecreasingBy}
-use Rattle.std.proofs.lemmas.Bool.{cond-true, cond-false, eqb-true, eq-eqb}
+use Rattle.std.specs.List.{AllByRecursion, sum_by}
+use Rattle.std.proofs.lemmas.Bool.{cond-true, cond-false}
 use Rattle.std.proofs.lemmas.List.{append-nil, append_assoc}
 use Rattle.std.proofs.lemmas.List.Sorted.{sum_by-IsPermutation}
-use Rattle.std.proofs.lemmas.List.Sums.{sum_by-cons}
 use Rattle.job_model.specs.Numbers.{least, numbers_below}
 use Rattle.job_model.specs.Table.{Table, IsTable, job_at}
 use Rattle.sag_time.specs.Interval.{Interval}
 use Rattle.start_windows.specs.Window.{is_candidate, candidates, latest_ready, certain_start}
 use Rattle.job_model.specs.Releases.{IsReleaseOrder}
 use Rattle.start_windows.specs.Eligible.{IsOpenFrom, first_release, is_open}
-use Rattle.start_windows.specs.Prospects.{Collected, is_near}
+use Rattle.start_windows.specs.Prospects.{Collected, IsShuffle, is_near, times_in}
 use Rattle.job_sets.specs.Subset.{is_member}
 use Rattle.std.specs.Prelude.{take, drop, not}
 use Rattle.std.proofs.lemmas.List.{drop_more, get_or-take, get_or-drop, length-take, length-drop, take_more, map-append, take-append-drop}
 use Rattle.std.proofs.lemmas.List.Elements.{All-from_get_or, All-map, filter-append, recursion_from_All}
 use Rattle.std.proofs.lemmas.Bool.{ltb-true, and_left, and_right, true_from_ne_false}
-use Rattle.start_windows.proofs.Caps.{capped-least, capped_when-permutation}
+use Rattle.start_windows.proofs.Shuffles.{IsShuffle-filter, IsShuffle-from_permutation, hits, least-shuffle, times_in-range}
 use Rattle.start_windows.proofs.Collecting.{Collected-far, Collected-other}
-
--- two least numbers that cap alike
-pub least_from_caps : (a b : Option ℕ) → ((c : ℕ) → option_map_or (λ r. min r c) a c ≡ option_map_or (λ r. min r c) b c) → a ≡ b
-least_from_caps None None h = refl
-least_from_caps None (Some s) h = absurd (differ s (h (suc s)))
-  where
-    differ : (s : ℕ) → suc s ≡ min s (suc s) → ⊥
-    differ s e = omega arith
-least_from_caps (Some r) None h = absurd (differ r (h (suc r)))
-  where
-    differ : (s : ℕ) → min s (suc s) ≡ suc s → ⊥
-    differ s e = omega arith
-least_from_caps (Some r) (Some s) h = ap Some (same r s (h (max r s)))
-  where
-    same : (r s : ℕ) → min r (max r s) ≡ min s (max r s) → r ≡ s
-    same r s e = omega arith
-
--- the least does not depend on the order
-pub least-permutation : (f : ℕ → ℕ) (p : ℕ → Bool) (xs ys : List ℕ) → IsPermutation xs ys → least (map f (filter p xs)) ≡ least (map f (filter p ys))
-least-permutation f p xs ys moved =
-    least_from_caps (least (map f (filter p xs))) (least (map f (filter p ys)))
-    (λ c. sym (capped-least c (map f (filter p xs))) ∙ capped_when-permutation c f p xs ys moved ∙ capped-least c (map f (filter p ys)))
-
--- how often j stands in a list
-abbrev pub hits : ℕ → ℕ → ℕ
-hits j k = cond (eqb k j) 1 0
-
-abbrev pub Rises : List ℕ → Type 0
-Rises [] = Unit {0}
-Rises (x ∷ xs) = AllByRecursion (λ y. x ≤ y) xs × Rises xs
-
-pub low-hit : (m x : ℕ) (ys : List ℕ) → AllByRecursion (λ y. m ≤ y) ys → 0 < sum_by (hits x) ys → m ≤ x
-low-hit m x [] all h = absurd (none h)
-  where
-    none : 0 < 0 → ⊥
-    none h = omega arith
-low-hit m x (y ∷ ys) all h = by_test (eqb y x) refl (low-hit m x ys all.1) (omega (arith, h, sum_by-cons (hits x) y ys))
-  where
-    by_test : (t : Bool) → eqb y x ≡ t → (0 < sum_by (hits x) ys → m ≤ x) → 0 < cond t 1 0 + sum_by (hits x) ys → m ≤ x
-    by_test true e ih k = omega (arith, eqb-true y x e, all.0)
-    by_test false e ih k = ih (omega (arith, k))
-
-own-hit : (x : ℕ) → hits x x ≡ 1
-own-hit x = cond-true _ _ _ (eq-eqb x x refl)
-
-first_hit : (x : ℕ) (xs : List ℕ) → sum_by (hits x) (x ∷ xs) ≡ 1 + sum_by (hits x) xs
-first_hit x xs = omega (arith, sum_by-cons (hits x) x xs, own-hit x)
-
--- rising lists with the same numbers, as often, are one
-pub rises-unique : (xs ys : List ℕ) → Rises xs → Rises ys → ((j : ℕ) → sum_by (hits j) xs ≡ sum_by (hits j) ys) → xs ≡ ys
-rises-unique [] [] p q same = refl
-rises-unique [] (y ∷ ys) p q same = absurd (none (sum_by (hits y) ys) (same y ∙ first_hit y ys))
-  where
-    none : (n : ℕ) → 0 ≡ 1 + n → ⊥
-    none n h = omega arith
-rises-unique (x ∷ xs) [] p q same = absurd (none (sum_by (hits x) xs) (sym (same x) ∙ first_hit x xs))
-  where
-    none : (n : ℕ) → 0 ≡ 1 + n → ⊥
-    none n h = omega arith
-rises-unique (x ∷ xs) (y ∷ ys) p q same =
-    let hit_x : 0 < sum_by (hits x) (y ∷ ys) = omega (arith, same x, first_hit x xs) in
-    let hit_y : 0 < sum_by (hits y) (x ∷ xs) = omega (arith, same y, first_hit y ys) in
-    let below_x : y ≤ x = low-hit y x (y ∷ ys) (omega arith, q.0) hit_x in
-    let below_y : x ≤ y = low-hit x y (x ∷ xs) (omega arith, p.0) hit_y in
-    let head : x ≡ y = omega arith in
-    let rest : (j : ℕ) → sum_by (hits j) xs ≡ sum_by (hits j) ys = λ j. omega (arith, same j, ap (hits j) head, sum_by-cons (hits j) x xs, sum_by-cons (hits j) y ys) in
-    ap (λ z. z ∷ xs) head ∙ ap (λ l. y ∷ l) (rises-unique xs ys p.1 q.1 rest)
-
-pub sum_by-when : (f : ℕ → ℕ) (p : ℕ → Bool) (xs : List ℕ) → sum_by f (filter p xs) ≡ sum_by (λ x. cond (p x) (f x) 0) xs
-sum_by-when f p [] = refl
-sum_by-when f p (x ∷ xs) = by_test (p x) (sum_by-when f p xs) ∙ sym (sum_by-cons (λ x. cond (p x) (f x) 0) x xs)
-  where
-    by_test : (t : Bool) → sum_by f (filter p xs) ≡ sum_by (λ x. cond (p x) (f x) 0) xs → sum_by f (cond t (x ∷ filter p xs) (filter p xs)) ≡ cond t (f x) 0 + sum_by (λ x. cond (p x) (f x) 0) xs
-    by_test true e = sum_by-cons f x (filter p xs) ∙ ap (λ n. f x + n) e
-    by_test false e = omega arith
-
-pub hits-permutation : (j : ℕ) (p : ℕ → Bool) (xs ys : List ℕ) → IsPermutation xs ys → sum_by (hits j) (filter p xs) ≡ sum_by (hits j) (filter p ys)
-hits-permutation j p xs ys moved = sum_by-when (hits j) p xs ∙ sym (sum_by-IsPermutation (λ x. cond (p x) (hits j x) 0) xs ys moved) ∙ sym (sum_by-when (hits j) p ys)
-
-pub AllByRecursion-filter : (P : ℕ → Type 0) (p : ℕ → Bool) (xs : List ℕ) → AllByRecursion P xs → AllByRecursion P (filter p xs)
-AllByRecursion-filter P p [] all = tt
-AllByRecursion-filter P p (x ∷ xs) all = by_test (p x) (AllByRecursion-filter P p xs all.1)
-  where
-    by_test : (t : Bool) → AllByRecursion P (filter p xs) → AllByRecursion P (cond t (x ∷ filter p xs) (filter p xs))
-    by_test true r = (all.0, r)
-    by_test false r = r
-
-pub Rises-filter : (p : ℕ → Bool) (xs : List ℕ) → Rises xs → Rises (filter p xs)
-Rises-filter p [] up = tt
-Rises-filter p (x ∷ xs) up = by_test (p x) (Rises-filter p xs up.1)
-  where
-    by_test : (t : Bool) → Rises (filter p xs) → Rises (cond t (x ∷ filter p xs) (filter p xs))
-    by_test true r = (AllByRecursion-filter (λ y. x ≤ y) p xs up.0, r)
-    by_test false r = r
-
-pub Rises-range : (a n : ℕ) → Rises (range_with_len a n)
-Rises-range a zero = tt
-Rises-range a (suc n) = (above a (a + 1) n (omega arith), Rises-range (a + 1) n)
-  where
-    above : (m a n : ℕ) → m ≤ a → AllByRecursion (λ y. m ≤ y) (range_with_len a n)
-    above m a zero h = tt
-    above m a (suc n) h = (h, above m (a + 1) n (omega arith))
 
 module _ (table : Table) (set : List ℕ) (ends : List (ℕ × Interval)) (first : Interval) where
   -- STOP: where all that follow are released after the least Rmax so far and after CA_1
@@ -144,29 +39,28 @@ module _ (table : Table) (set : List ℕ) (ends : List (ℕ × Interval)) (first
       (Collected-start (seen ++ x ∷ []) vs low front (Collected-other table set ends first seen vs low x c all.0) all.1)
 
   -- ORDER: after a walk over the jobs in any order, and a sort of what it collected
-  pub certain-walked : (order vs : List ℕ) (low : Option ℕ) → IsPermutation (numbers_below (length table.jobs)) order → Collected table set ends first order vs low →
-      max first.hi (unwrap_or low 0) ≡ certain_start table set ends first
-  certain-walked order vs low moved c =
-      ap (λ o. max first.hi (unwrap_or o 0)) (c.ready_is ∙ sym (least-permutation (latest_ready table ends) (is_candidate table set) (numbers_below (length table.jobs)) order moved))
+  pub certain-walked : (order kept : List ℕ) (ready : Option ℕ) → IsPermutation (numbers_below (length table.jobs)) order → Collected table set ends first order kept ready →
+      max first.hi (unwrap_or ready 0) ≡ certain_start table set ends first
+  certain-walked order kept ready moved c =
+      let same = IsShuffle-from_permutation (numbers_below (length table.jobs)) order moved in
+      ap (λ o. max first.hi (unwrap_or o 0)) (c.ready_is ∙ sym (least-shuffle (latest_ready table ends) (is_candidate table set) (numbers_below (length table.jobs)) order same))
 
-  pub near-walked : (order vs sorted : List ℕ) (low : Option ℕ) → IsPermutation (numbers_below (length table.jobs)) order → Collected table set ends first order vs low →
-      IsPermutation vs sorted → Rises sorted → (w : ℕ) → w ≡ max first.hi (unwrap_or low 0) →
-      filter (is_near table w) sorted ≡ filter (is_near table w) (candidates table set)
-  near-walked order vs sorted low moved c again up w e =
-      rises-unique (filter (is_near table w) sorted) (filter (is_near table w) (candidates table set))
-      (Rises-filter (is_near table w) sorted up)
-      (Rises-filter (is_near table w) (candidates table set) (Rises-filter (is_candidate table set) (numbers_below (length table.jobs)) (Rises-range 0 (length table.jobs))))
-      (λ j. sym (hits-permutation j (is_near table w) vs sorted again)
-      ∙ ap (sum_by (hits j)) (c.same_near w (within low e))
-      ∙ sum_by-when (hits j) (is_near table w) (filter (is_candidate table set) order)
-      ∙ sum_by-when (λ x. cond (is_near table w x) (hits j x) 0) (is_candidate table set) order
-      ∙ sum_by-IsPermutation (λ x. cond (is_candidate table set x) (cond (is_near table w x) (hits j x) 0) 0) (numbers_below (length table.jobs)) order moved
-      ∙ sym (sum_by-when (λ x. cond (is_near table w x) (hits j x) 0) (is_candidate table set) (numbers_below (length table.jobs)))
-      ∙ sym (sum_by-when (hits j) (is_near table w) (candidates table set)))
+  pub near-walked : (order kept sorted : List ℕ) (ready : Option ℕ) → IsPermutation (numbers_below (length table.jobs)) order → Collected table set ends first order kept ready →
+      IsPermutation kept sorted → (w : ℕ) → w ≡ max first.hi (unwrap_or ready 0) → IsShuffle (filter (is_near table w) sorted) (filter (is_near table w) (candidates table set))
+  near-walked order kept sorted ready moved c again w e =
+      let numbers = numbers_below (length table.jobs) in
+      let here = IsShuffle-filter (is_near table w) kept sorted (IsShuffle-from_permutation kept sorted again) in
+      let there = IsShuffle-filter (is_near table w) _ _ (IsShuffle-filter (is_candidate table set) numbers order (IsShuffle-from_permutation numbers order moved)) in
+      record { sums = λ f. sym (here.sums f) ∙ ap (sum_by f) (c.same_near w (within ready e)) ∙ sym (there.sums f) }
     where
       within : (o : Option ℕ) → w ≡ max first.hi (unwrap_or o 0) → IfSome o (λ r. w ≤ max first.hi r)
       within None e = tt
       within (Some r) e = omega arith
+
+  pub once-walked : (order kept sorted : List ℕ) (ready : Option ℕ) → IsPermutation (numbers_below (length table.jobs)) order → Collected table set ends first order kept ready →
+      IsPermutation kept sorted → (j : ℕ) → times_in sorted j ≤ 1
+  once-walked order kept sorted ready moved c again j =
+      omega (arith, sum_by-IsPermutation (hits j) kept sorted again, c.once j, sum_by-IsPermutation (hits j) (numbers_below (length table.jobs)) order moved, times_in-range 0 (length table.jobs) j)
 
 -- the jobs in front of the walk are dispatched
 pub front_dispatched : (table : Table) (set : List ℕ) (order : List (ℕ × ℕ)) (from start : ℕ) → IsReleaseOrder table order → IsOpenFrom table set from → start ≤ length order →
@@ -216,7 +110,7 @@ least_first f p m (x ∷ xs) all = by_test (p x) (least_first f p m xs all.1)
 
 module _ (table : Table) (set : List ℕ) (order : List (ℕ × ℕ)) (is : IsReleaseOrder table order) where
   by_order : (t : ℕ) → first_release table set t ≡ unwrap_or (least (map (λ j. (job_at table j).rmin) (filter (is_open set) (map (λ e. e.1) order)))) t
-  by_order t = ap (λ o. unwrap_or o t) (least-permutation (λ j. (job_at table j).rmin) (is_open set) (numbers_below (length table.jobs)) (map (λ e. e.1) order) is.each_job)
+  by_order t = ap (λ o. unwrap_or o t) (least-shuffle (λ j. (job_at table j).rmin) (is_open set) (numbers_below (length table.jobs)) (map (λ e. e.1) order) (IsShuffle-from_permutation (numbers_below (length table.jobs)) (map (λ e. e.1) order) is.each_job))
 
   pub first_release-at : (t place : ℕ) → place < length order → AllByRecursion (λ x. is_member x set ≡ true) (map (λ e. e.1) (take place order)) → is_member (get_or order place (0, 0)).1 set ≡ false
       → (get_or order place (0, 0)).0 ≡ first_release table set t
@@ -273,10 +167,3 @@ walk_stop table set ends first t order place vs None is there c h = absurd h
 walk_stop table set ends first t order place vs (Some r) is there c h =
     subst (λ s. Collected table set ends first s vs (Some r)) (order_split order place)
     (Collected-stop table set ends first t (map (λ e. e.1) (take place order)) vs r (map (λ e. e.1) (drop place order)) c (rest_beyond table order place (max first.hi r) is there h))
-
-pub Rises-jobs : (cs : List Prospect) → IsNonDecreasingBy (λ c. c.job) cs → Rises (map (λ c. c.job) cs)
-Rises-jobs [] up = tt
-Rises-jobs (c ∷ cs) up = (
-  recursion_from_All (λ y. c.job ≤ y) (map (λ (x : Prospect). x.job) cs) (All-map (λ y. c.job ≤ y) (λ (x : Prospect). x.job) cs (λ k d lt. up 0 (suc k) d (omega arith) (omega arith))),
-  Rises-jobs cs (λ i j d le lt. up (suc i) (suc j) d (omega arith) (omega arith)),
-)

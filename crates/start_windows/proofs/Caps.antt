@@ -1,12 +1,10 @@
 -- Caps: windows by one number, and what may be left out of a minimum.
-use Rattle.std.proofs.Common.{◌≡◌, ◌∙◌, ℕ, suc, ◌-◌, ◌<◌, ◌≤◌, Bool, true, false, ◌&&◌, cond, List, [], ◌∷◌, map, min, max, Option, Some, None, leb, ltb, refl, sym, ap, arith}
-use Rattle.std.specs.Prelude.{IsPermutation, filter}
-use Rattle.std.specs.List.{AllByRecursion, cons_option, filter_map}
+use Rattle.std.proofs.Common.{◌≡◌, ◌∙◌, ℕ, suc, ◌-◌, ◌<◌, ◌≤◌, Bool, true, false, ◌&&◌, cond, List, [], ◌∷◌, ◌++◌, map, min, max, Option, Some, None, leb, ltb, refl, sym, ap, arith}
+use Rattle.std.specs.Prelude.{filter}
+use Rattle.std.specs.List.{cons_option, filter_map}
 use Rattle.std.specs.Option.{option_map_or}
-use Rattle.std.proofs.lemmas.Bool.{cond-true, cond-false, false≢true, lt-ltb, le-ltb}
+use Rattle.std.proofs.lemmas.Bool.{cond-false, lt-ltb, le-ltb}
 use Rattle.std.proofs.lemmas.Bool.Decides.{nat_tests}
-use Rattle.std.proofs.lemmas.List.Elements.{All-from_recursion, recursion_from_All}
-use Rattle.std.proofs.lemmas.List.Sorted.{All-permutation, IsPermutation-sym}
 use Rattle.job_model.specs.Numbers.{greatest, least}
 use Rattle.start_windows.specs.declared.StartWindow.{StartWindow}
 use Rattle.start_windows.specs.declared.eligibility.Prospect.{Prospect}
@@ -17,8 +15,12 @@ pub capped-le : (c : ℕ) (xs : List ℕ) → capped c xs ≤ c
 capped-le c [] = omega arith
 capped-le c (x ∷ xs) = omega (arith, capped-le c xs)
 
+pub capped_push : (c : ℕ) (xs : List ℕ) (y : ℕ) → capped c (xs ++ y ∷ []) ≡ min (capped c xs) y
+capped_push c [] y = omega arith
+capped_push c (x ∷ xs) y = omega (arith, capped_push c xs y)
+
 -- a cap can be applied last
-capped_min : (b c : ℕ) (xs : List ℕ) → capped (min b c) xs ≡ min b (capped c xs)
+pub capped_min : (b c : ℕ) (xs : List ℕ) → capped (min b c) xs ≡ min b (capped c xs)
 capped_min b c [] = refl
 capped_min b c (x ∷ xs) = omega (arith, capped_min b c xs)
 
@@ -43,6 +45,15 @@ filter-filter p q (x ∷ xs) = by_tests (p x) (q x) refl refl (filter-filter p q
     by_tests true false ps qt e = rw (ps, qt) e
     by_tests false true ps qt e = rw (ps, qt) (rw ps e)
     by_tests false false ps qt e = rw (ps, qt) e
+
+-- where what fails q fails p
+pub filter-kept : (p q : ℕ → Bool) → ((x : ℕ) → q x ≡ false → p x ≡ false) → (xs : List ℕ) → filter p (filter q xs) ≡ filter p xs
+filter-kept p q fails [] = refl
+filter-kept p q fails (x ∷ xs) = by_test (q x) (fails x) (filter-kept p q fails xs)
+  where
+    by_test : (t : Bool) → (t ≡ false → p x ≡ false) → filter p (filter q xs) ≡ filter p xs → filter p (cond t (x ∷ filter q xs) (filter q xs)) ≡ cond (p x) (x ∷ filter p xs) (filter p xs)
+    by_test true h e = ap (λ l. cond (p x) (x ∷ l) l) e
+    by_test false h e = e ∙ sym (cond-false _ _ _ (h refl))
 
 -- the least number, where there is one, as a cap
 pub capped-least : (c : ℕ) (xs : List ℕ) → capped c xs ≡ option_map_or (λ r. min r c) (least xs) c
@@ -90,6 +101,10 @@ filter_map-filter {Y} h g p same none (x ∷ xs) = by_test (p x) (same x) (none 
     by_test true s n e = rw (s refl, e) refl
     by_test false s n e = rw (n refl) e
 
+pub filter_map-same : {Y : Type 0} (h g : ℕ → Option Y) → ((x : ℕ) → h x ≡ g x) → (xs : List ℕ) → filter_map h xs ≡ filter_map g xs
+filter_map-same h g same [] = refl
+filter_map-same h g same (x ∷ xs) = rw (same x, filter_map-same h g same xs) refl
+
 pub greatest-filter-le : (f : ℕ → ℕ) (p : ℕ → Bool) (xs : List ℕ) → greatest (map f (filter p xs)) ≤ greatest (map f xs)
 greatest-filter-le f p [] = omega arith
 greatest-filter-le f p (x ∷ xs) = by_test (p x) (greatest-filter-le f p xs)
@@ -99,61 +114,23 @@ greatest-filter-le f p (x ∷ xs) = by_test (p x) (greatest-filter-le f p xs)
     by_test true h = omega arith
     by_test false h = omega arith
 
--- ---- the order of the numbers does not matter
+-- ---- one prospect after the other: f is the limit that a job sets
 
-pub capped_when-greatest : (c m : ℕ) (f : ℕ → ℕ) (p : ℕ → Bool) (xs : List ℕ) → m ≤ c → AllByRecursion (λ x. p x ≡ true → m ≤ f x) xs → m ≤ capped c (map f (filter p xs))
-capped_when-greatest c m f p [] h all = h
-capped_when-greatest c m f p (x ∷ xs) h all = by_test (p x) all.0 (capped_when-greatest c m f p xs h all.1)
-  where
-    by_test : (t : Bool) → (t ≡ true → m ≤ f x) → m ≤ capped c (map f (filter p xs)) → m ≤ capped c (map f (cond t (x ∷ filter p xs) (filter p xs)))
-    by_test true g r = omega (arith, g refl)
-    by_test false g r = r
-
-pub capped_when-bounds : (c m : ℕ) (f : ℕ → ℕ) (p : ℕ → Bool) (xs : List ℕ) → m ≤ capped c (map f (filter p xs)) → AllByRecursion (λ x. p x ≡ true → m ≤ f x) xs
-capped_when-bounds c m f p [] h = tt
-capped_when-bounds c m f p (x ∷ xs) h = let parts = by_test (p x) h in (parts.0, capped_when-bounds c m f p xs parts.1)
-  where
-    by_test : (t : Bool) → m ≤ capped c (map f (cond t (x ∷ filter p xs) (filter p xs))) → (t ≡ true → m ≤ f x) × (m ≤ capped c (map f (filter p xs)))
-    by_test true h = (λ _. omega arith, omega arith)
-    by_test false h = (λ e. absurd (false≢true e), h)
-
--- the least of what f gives of those that pass does not depend on their order
-pub capped_when-permutation : (c : ℕ) (f : ℕ → ℕ) (p : ℕ → Bool) (xs ys : List ℕ) → IsPermutation xs ys → capped c (map f (filter p xs)) ≡ capped c (map f (filter p ys))
-capped_when-permutation c f p xs ys moved =
-    let le : (us vs : List ℕ) → IsPermutation us vs → capped c (map f (filter p us)) ≤ capped c (map f (filter p vs)) =
-    λ us vs perm. capped_when-greatest c (capped c (map f (filter p us))) f p vs (capped-le c (map f (filter p us)))
-    (recursion_from_All (λ x. p x ≡ true → capped c (map f (filter p us)) ≤ f x) vs
-    (All-permutation (λ x. p x ≡ true → capped c (map f (filter p us)) ≤ f x) us vs perm
-    (All-from_recursion (λ x. p x ≡ true → capped c (map f (filter p us)) ≤ f x) us (capped_when-bounds c (capped c (map f (filter p us))) f p us (omega arith))))) in
-    omega (arith, le xs ys moved, le ys xs (IsPermutation-sym xs ys moved))
-
--- ---- one prospect after the other: f is the limit that a job sets, where p passes
-
-module _ (f : ℕ → ℕ) (p : ℕ → Bool) (est : ℕ) where
+module _ (f : ℕ → ℕ) (est : ℕ) where
   -- the window up to lst that these leave
   abbrev pub left : ℕ → List Prospect → Option StartWindow
-  left lst found = window_of est (capped (suc lst) (map f (filter p (jobs_of found))))
+  left lst found = window_of est (capped (suc lst) (map f (jobs_of found)))
 
-  pub left-taken : (lst limit : ℕ) (x : Prospect) (rest : List Prospect) → p x.job ≡ true → limit ≡ f x.job → est < limit → left (min lst (limit - 1)) rest ≡ left lst (x ∷ rest)
-  left-taken lst limit x rest passes own after =
+  pub left-taken : (lst limit : ℕ) (x : Prospect) (rest : List Prospect) → limit ≡ f x.job → est < limit → left (min lst (limit - 1)) rest ≡ left lst (x ∷ rest)
+  left-taken lst limit x rest own after =
       let one : suc (min lst (limit - 1)) ≡ min (f x.job) (suc lst) = omega (arith, own, after) in
-      ap (λ c. window_of est (capped c (map f (filter p (jobs_of rest))))) one
-      ∙ ap (window_of est) (capped_min (f x.job) (suc lst) (map f (filter p (jobs_of rest)))) ∙ ap (λ l. window_of est (capped (suc lst) (map f l))) (sym (cond-true (p x.job) (x.job ∷ filter p (jobs_of rest)) (filter p (jobs_of rest)) passes))
-
-  pub left-other : (lst : ℕ) (x : Prospect) (rest : List Prospect) → p x.job ≡ false → left lst rest ≡ left lst (x ∷ rest)
-  left-other lst x rest fails = ap (λ l. window_of est (capped (suc lst) (map f l))) (sym (cond-false (p x.job) (x.job ∷ filter p (jobs_of rest)) (filter p (jobs_of rest)) fails))
+      ap (λ c. window_of est (capped c (map f (jobs_of rest)))) one ∙ ap (window_of est) (capped_min (f x.job) (suc lst) (map f (jobs_of rest)))
 
   pub left-late : (lst : ℕ) (x : Prospect) (rest : List Prospect) → lst < f x.job → left lst rest ≡ left lst (x ∷ rest)
-  left-late lst x rest late = by_test (p x.job)
+  left-late lst x rest late = ap (window_of est) (lesser (f x.job) (capped (suc lst) (map f (jobs_of rest))) (omega (arith, late, capped-le (suc lst) (map f (jobs_of rest)))))
     where
-      by_test : (t : Bool) → left lst rest ≡ window_of est (capped (suc lst) (map f (cond t (x.job ∷ filter p (jobs_of rest)) (filter p (jobs_of rest)))))
-      by_test true = ap (window_of est) (lesser (f x.job) (capped (suc lst) (map f (filter p (jobs_of rest)))) (omega (arith, late, capped-le (suc lst) (map f (filter p (jobs_of rest))))))
-        where
-          lesser : (a b : ℕ) → b ≤ a → b ≡ min a b
-          lesser a b le = omega (arith, le)
-      by_test false = refl
+      lesser : (a b : ℕ) → b ≤ a → b ≡ min a b
+      lesser a b le = omega (arith, le)
 
-  pub left-none : (lst limit : ℕ) (x : Prospect) (rest : List Prospect) → p x.job ≡ true → limit ≡ f x.job → limit ≤ est → None ≡ left lst (x ∷ rest)
-  left-none lst limit x rest passes own le =
-      let first = ap (λ l. capped (suc lst) (map f l)) (cond-true (p x.job) (x.job ∷ filter p (jobs_of rest)) (filter p (jobs_of rest)) passes) in
-      sym (window_of-none est _ (omega (arith, first, own, le)))
+  pub left-none : (lst limit : ℕ) (x : Prospect) (rest : List Prospect) → limit ≡ f x.job → limit ≤ est → None ≡ left lst (x ∷ rest)
+  left-none lst limit x rest own le = sym (window_of-none est _ (omega (arith, own, le)))

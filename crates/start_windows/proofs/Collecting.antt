@@ -6,23 +6,28 @@ use Rattle.std.specs.Option.{option_map, option_map_or}
 use Rattle.std.proofs.lemmas.Bool.{cond-true, cond-false, lt-leb}
 use Rattle.std.proofs.lemmas.List.{append-nil, drop_more, map-append, map_more}
 use Rattle.std.proofs.lemmas.List.Elements.{All-push, filter-append, filter_map-append}
+use Rattle.std.proofs.lemmas.List.Sums.{sum_by_push}
 use Rattle.job_model.specs.Numbers.{least}
 use Rattle.job_model.specs.Table.{Table, IsTable, job_at}
 use Rattle.sag_time.specs.Interval.{Interval}
 use Rattle.start_windows.specs.declared.StartWindow.{StartWindow}
 use Rattle.start_windows.specs.declared.eligibility.Prospect.{Prospect}
 use Rattle.start_windows.specs.Window.{is_candidate, latest_ready}
-use Rattle.start_windows.specs.Prospects.{AreProspects, Collected, is_near, jobs_of, prospect_of}
+use Rattle.start_windows.specs.Prospects.{AreProspects, Collected, is_near, jobs_of, prospect_of, times_in}
 use Rattle.start_windows.proofs.Passing.{least_push}
 use Rattle.start_windows.proofs.SomeEligible.{released}
+use Rattle.start_windows.proofs.Shuffles.{hits}
 use Rattle.start_windows.proofs.Sweep.{latest_ready-above}
 
 module _ (table : Table) (set : List ℕ) (ends : List (ℕ × Interval)) (first : Interval) where
   pub Collected-none : Collected table set ends first [] [] None
-  Collected-none = record { ready_is = refl; same_near = λ w le. refl }
+  Collected-none = record { ready_is = refl; same_near = λ w le. refl; once = λ j. omega arith }
 
   passed : (seen : List ℕ) (x : ℕ) → is_candidate table set x ≡ true → filter (is_candidate table set) (seen ++ x ∷ []) ≡ filter (is_candidate table set) seen ++ x ∷ []
   passed seen x h = filter-append (is_candidate table set) seen (x ∷ []) ∙ ap (λ l. filter (is_candidate table set) seen ++ l) (cond-true _ _ _ h)
+
+  once_more : (seen kept : List ℕ) (x j : ℕ) → times_in kept j ≤ times_in seen j → times_in kept j ≤ times_in (seen ++ x ∷ []) j
+  once_more seen kept x j le = omega (arith, le, sum_by_push (hits j) seen x)
 
   left_out : (seen : List ℕ) (x : ℕ) → is_candidate table set x ≡ false → filter (is_candidate table set) (seen ++ x ∷ []) ≡ filter (is_candidate table set) seen
   left_out seen x h = filter-append (is_candidate table set) seen (x ∷ []) ∙ ap (λ l. filter (is_candidate table set) seen ++ l) (cond-false _ _ _ h) ∙ append-nil (filter (is_candidate table set) seen)
@@ -33,6 +38,7 @@ module _ (table : Table) (set : List ℕ) (ends : List (ℕ × Interval)) (first
       record {
         ready_is = c.ready_is ∙ ap (λ l. least (map (latest_ready table ends) l)) (sym e);
         same_near = λ w le. c.same_near w le ∙ ap (filter (is_near table w)) (sym e);
+        once = λ j. once_more seen kept x j (c.once j);
       }
 
   near_push : (w : ℕ) (xs : List ℕ) (x : ℕ) → filter (is_near table w) (xs ++ x ∷ []) ≡ filter (is_near table w) xs ++ filter (is_near table w) (x ∷ [])
@@ -51,6 +57,7 @@ module _ (table : Table) (set : List ℕ) (ends : List (ℕ × Interval)) (first
   Collected-push seen kept ready x c h = record {
     ready_is = ready_push seen ready x c.ready_is h;
     same_near = λ w le. near_push w kept x ∙ ap (λ l. l ++ filter (is_near table w) (x ∷ [])) (c.same_near w (weaker w ready le)) ∙ sym (near_push w (filter (is_candidate table set) seen) x) ∙ ap (filter (is_near table w)) (sym (passed seen x h));
+    once = λ j. omega (arith, c.once j, sum_by_push (hits j) seen x, sum_by_push (hits j) kept x);
   }
     where
       weaker : (w : ℕ) (o : Option ℕ) → w ≤ max first.hi (option_map_or (λ t. min t (latest_ready table ends x)) o (latest_ready table ends x)) → IfSome o (λ t. w ≤ max first.hi t)
@@ -68,6 +75,7 @@ module _ (table : Table) (set : List ℕ) (ends : List (ℕ × Interval)) (first
         same_near = λ w le. c.same_near w le ∙ sym (append-nil (filter (is_near table w) (filter (is_candidate table set) seen)))
             ∙ ap (λ l. filter (is_near table w) (filter (is_candidate table set) seen) ++ l) (sym (cond-false _ _ _ (lt-leb _ _ (after w le))))
             ∙ sym (near_push w (filter (is_candidate table set) seen) x) ∙ ap (filter (is_near table w)) (sym (passed seen x h));
+        once = λ j. once_more seen kept x j (c.once j);
       }
         where
           late : t < latest_ready table ends x

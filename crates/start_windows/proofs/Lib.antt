@@ -1,8 +1,12 @@
 mod ByRelease
+mod ByUrgency
 mod Caps
 mod Collecting
 mod EndLists
+mod InOrder
 mod Passing
 mod Rows
-mod SomeEligible
+mod Shuffles
+pub mod SomeEligible
 mod Sweep
+pub mod WindowFacts

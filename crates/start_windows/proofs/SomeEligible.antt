@@ -22,7 +22,7 @@ use Rattle.start_windows.specs.Window.{is_candidate, candidates, earliest_ready,
 -- ---- choices from a list
 
 -- a number whose value is the least of all, if there is one
-least_of : (P : ℕ → Type 0) (f : ℕ → ℕ) (xs : List ℕ) → AllByRecursion P xs → (xs ≡ []) ⊎ ((x : ℕ) × P x × (least (map f xs) ≡ Some (f x)))
+pub least_of : (P : ℕ → Type 0) (f : ℕ → ℕ) (xs : List ℕ) → AllByRecursion P xs → (xs ≡ []) ⊎ ((x : ℕ) × P x × (least (map f xs) ≡ Some (f x)))
 least_of P f [] all = inl refl
 least_of P f (x ∷ xs) all = elim (least_of P f xs all.1) [
   | inl none ↦ inr (x, all.0, rw none refl)
@@ -86,7 +86,7 @@ greatest-mono : (f g : ℕ → ℕ) → ((x : ℕ) → f x ≤ g x) → (xs : Li
 greatest-mono f g le [] = omega arith
 greatest-mono f g le (x ∷ xs) = omega (arith, le x, greatest-mono f g le xs)
 
-greatest-member : (f : ℕ → ℕ) (i : ℕ) (xs : List ℕ) → is_member i xs ≡ true → f i ≤ greatest (map f xs)
+pub greatest-member : (f : ℕ → ℕ) (i : ℕ) (xs : List ℕ) → is_member i xs ≡ true → f i ≤ greatest (map f xs)
 greatest-member f i [] there = cc
 greatest-member f i (x ∷ xs) there = elim (or_cases (x == i) (is_member i xs) there) [
   | inl same ↦ omega (arith, ap f (eqb-true x i same))
@@ -103,7 +103,7 @@ greatest-passing f g q t le low (x ∷ xs) less = by_test (q x) refl (greatest-p
     by_test false fails rest = rest (omega (arith, less, low x fails))
 
 -- a moment before all values is before the least of them
-before-least : (f : ℕ → ℕ) (q : ℕ → Bool) (t : ℕ) (xs : List ℕ) → AllByRecursion (λ x. q x ≡ true → t < f x) xs → is_before t (least (map f (filter q xs))) ≡ true
+pub before-least : (f : ℕ → ℕ) (q : ℕ → Bool) (t : ℕ) (xs : List ℕ) → AllByRecursion (λ x. q x ≡ true → t < f x) xs → is_before t (least (map f (filter q xs))) ≡ true
 before-least f q t [] all = refl
 before-least f q t (x ∷ xs) all = by_test (q x) all.0 (before-least f q t xs all.1)
   where

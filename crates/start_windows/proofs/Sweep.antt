@@ -1,19 +1,24 @@
 -- The windows of a state from those candidates that may be released by the moment at which some job certainly starts.
-use Rattle.std.proofs.Common.{◌≡◌, ◌∙◌, ℕ, zero, suc, ◌<◌, ◌≤◌, Bool, true, false, inl, inr, List, [], ◌∷◌, map, min, not, Option, Some, None, refl, sym, ap, subst, arith, length, get_or}
-use Rattle.std.specs.Prelude.{filter, unwrap_or}
-use Rattle.std.specs.List.{filter_map}
-use Rattle.std.specs.Option.{option_map, option_map_or}
+use Rattle.std.proofs.Common.{◌≡◌, ◌∙◌, ℕ, zero, suc, ◌<◌, ◌≤◌, Bool, true, false, cond, inl, inr, List, [], ◌∷◌, map, min, not, Option, Some, None, refl, sym, ap, subst, arith, length, get_or}
+use Rattle.std.specs.Prelude.{IsPermutation, filter, unwrap_or}
+use Rattle.std.specs.List.{AllByRecursion, cons_option, filter_map, sum_by}
+use Rattle.std.specs.List.Sorted.{IsNonDecreasingBy}
+use Rattle.std.specs.Option.{is_some, option_map, option_map_or}
 use Rattle.std.proofs.lemmas.Bool.{cases_Bool, cond-true, cond-false, leb-false, not_from_false}
+use Rattle.std.proofs.lemmas.List.Elements.{All-from_recursion, recursion_from_All}
+use Rattle.std.proofs.lemmas.List.Sorted.{All-permutation, IsPermutation-map, sum_by-IsPermutation}
 use Rattle.std.proofs.lemmas.List.FromFn.{get_or-range_with_len, length-range_with_len}
 use Rattle.job_sets.specs.Subset.{is_member}
 use Rattle.job_model.specs.Numbers.{least, numbers_below}
 use Rattle.job_model.specs.Table.{Table, IsTable, job_at, has_urgency_over, predecessors}
 use Rattle.sag_time.specs.Interval.{Interval}
 use Rattle.start_windows.specs.Ends.{high_end}
+use Rattle.start_windows.specs.declared.StartWindow.{StartWindow}
 use Rattle.start_windows.specs.Window.{is_candidate, candidates, latest_ready, earliest_start, certain_start, ready_beside, start_window}
 use Rattle.start_windows.specs.Eligible.{IsOpenFrom, eligible_windows, first_release, is_open, with_window}
-use Rattle.start_windows.specs.Prospects.{cap_over, capped, is_near, offer_over, window_of, window_over}
-use Rattle.start_windows.proofs.Caps.{capped-kept, capped-le, filter-filter, filter_map-filter, greatest-filter-le, window-capped, window_of-none}
+use Rattle.start_windows.specs.Prospects.{IsShuffle, cap_over, capped, is_near, offer_over, window_of, window_over}
+use Rattle.start_windows.proofs.Caps.{capped-kept, capped-le, filter-filter, filter-kept, filter_map-filter, filter_map-same, greatest-filter-le, window-capped, window_of-none}
+use Rattle.start_windows.proofs.Shuffles.{IsShuffle-filter, Rises-by, Rises-filter, Rises-range, capped-shuffle, hits, rises-unique}
 use Rattle.start_windows.proofs.SomeEligible.{released}
 
 -- ---- limits of moments
@@ -29,6 +34,40 @@ module _ (table : Table) (ends : List (ℕ × Interval)) where
   pub ready_beside-plain : (j x : ℕ) → latest_ready table ends x ≡ (job_at table x).rmax → ready_beside table ends j x ≡ (job_at table x).rmax
   ready_beside-plain j x e =
       omega (arith, e, ready_beside-above j x, greatest-filter-le (high_end ends) (λ i. not (is_member i (predecessors table j))) (predecessors table x))
+
+-- ---- jobs with their windows
+
+module _ (window : ℕ → Option StartWindow) where
+  abbrev pub offered : ℕ → Option (ℕ × StartWindow)
+  offered j = option_map (λ u. (j, u)) (window j)
+
+  offered-jobs : (xs : List ℕ) → map (λ (e : ℕ × StartWindow). e.0) (filter_map offered xs) ≡ filter (λ j. is_some (window j)) xs
+  offered-jobs [] = refl
+  offered-jobs (x ∷ xs) = by_window (window x) (offered-jobs xs)
+    where
+      by_window : (o : Option StartWindow) → map (λ (e : ℕ × StartWindow). e.0) (filter_map offered xs) ≡ filter (λ j. is_some (window j)) xs →
+          map (λ (e : ℕ × StartWindow). e.0) (cons_option (option_map (λ u. (x, u)) o) (filter_map offered xs)) ≡ cond (is_some o) (x ∷ filter (λ j. is_some (window j)) xs) (filter (λ j. is_some (window j)) xs)
+      by_window None e = e
+      by_window (Some u) e = ap (λ l. x ∷ l) e
+
+  offered-own : (xs : List ℕ) → AllByRecursion (λ e. offered e.0 ≡ Some e) (filter_map offered xs)
+  offered-own [] = tt
+  offered-own (x ∷ xs) = by_window (window x) refl (offered-own xs)
+    where
+      by_window : (o : Option StartWindow) → window x ≡ o → AllByRecursion (λ e. offered e.0 ≡ Some e) (filter_map offered xs) → AllByRecursion (λ e. offered e.0 ≡ Some e) (cons_option (option_map (λ u. (x, u)) o) (filter_map offered xs))
+      by_window None e all = all
+      by_window (Some u) e all = (ap (option_map (λ u. (x, u))) e, all)
+
+  offered-has : (xs : List ℕ) → filter_map offered xs ≡ filter_map offered (filter (λ j. is_some (window j)) xs)
+  offered-has = filter_map-filter offered offered (λ j. is_some (window j)) (λ j h. refl) (λ j h. by_window j (window j) h)
+    where
+      by_window : (j : ℕ) (o : Option StartWindow) → is_some o ≡ false → option_map {U = ℕ × StartWindow} (λ u. (j, u)) o ≡ None
+      by_window j None h = refl
+      by_window j (Some u) h = cc
+
+  own_windows : (es : List (ℕ × StartWindow)) → AllByRecursion (λ e. offered e.0 ≡ Some e) es → es ≡ filter_map offered (map (λ e. e.0) es)
+  own_windows [] all = refl
+  own_windows (e ∷ es) all = ap (λ l. e ∷ l) (own_windows es all.1) ∙ ap (λ o. cons_option o (filter_map offered (map (λ (e : ℕ × StartWindow). e.0) es))) (sym all.0)
 
 -- ---- far candidates
 
@@ -55,25 +94,47 @@ module _ (table : Table) (ends : List (ℕ × Interval)) (first : Interval) wher
   window_over-far certain xs j far =
       window_of-none _ _ (omega (arith, leb-false _ _ far, capped-le (suc certain) (map (ready_beside table ends j) (filter (λ x. has_urgency_over table x j) xs))))
 
-  -- all windows, from any list that has the same near candidates in the same order
-  eligible-near : IsTable table → (set kept : List ℕ) → filter (is_near table (certain_start table set ends first)) kept ≡ filter (is_near table (certain_start table set ends first)) (candidates table set) →
-      filter_map (offer_over table ends first (certain_start table set ends first) kept) kept ≡ eligible_windows table set ends first
-  eligible-near t set kept same =
-      let w = certain_start table set ends first in
-      let all = candidates table set in
-      let caps : (j : ℕ) → cap_over table ends w kept j ≡ cap_over table ends w all j = λ j. sym (cap_over-near t w kept j) ∙ ap (λ l. cap_over table ends w l j) same ∙ cap_over-near t w all j in
-      let windows : (j : ℕ) → offer_over table ends first w kept j ≡ offer_over table ends first w all j = λ j. ap (λ c. option_map (λ u. (j, u)) (window_of (earliest_start table ends first j) c)) (caps j) in
-      let far : (xs : List ℕ) (j : ℕ) → is_near table w j ≡ false → offer_over table ends first w xs j ≡ None = λ xs j h. ap (option_map (λ u. (j, u))) (window_over-far w xs j h) in
-      let one = filter_map-filter (offer_over table ends first w kept) (offer_over table ends first w all) (is_near table w) (λ j h. windows j) (far kept) kept in
-      let two = filter_map-filter (offer_over table ends first w all) (offer_over table ends first w all) (is_near table w) (λ j h. refl) (far all) all in
-      let three = filter_map-filter (with_window table set ends first) (offer_over table ends first w all) (is_candidate table set)
-      (λ j h. ap (option_map (λ u. (j, u))) (start_window-candidate set j h)) (λ j h. ap (option_map (λ u. (j, u))) (start_window-other set j h)) (numbers_below (length table.jobs)) in
-      one ∙ ap (filter_map (offer_over table ends first w all)) same ∙ sym two ∙ sym three
+  -- all windows, over the candidates
+  eligible-candidates : (set : List ℕ) → eligible_windows table set ends first ≡ filter_map (offer_over table ends first (certain_start table set ends first) (candidates table set)) (candidates table set)
+  eligible-candidates set =
+      filter_map-filter (with_window table set ends first) (offer_over table ends first (certain_start table set ends first) (candidates table set)) (is_candidate table set)
+      (λ j h. ap (option_map (λ u. (j, u))) (start_window-candidate set j h)) (λ j h. ap (option_map (λ u. (j, u))) (start_window-other set j h)) (numbers_below (length table.jobs))
 
-  pub eligible-from : IsTable table → (set kept : List ℕ) (w : ℕ) → w ≡ certain_start table set ends first → filter (is_near table w) kept ≡ filter (is_near table w) (candidates table set) →
-      filter_map (offer_over table ends first w kept) kept ≡ eligible_windows table set ends first
-  eligible-from t set kept w e =
-      subst (λ (u : ℕ). filter (is_near table u) kept ≡ filter (is_near table u) (candidates table set) → filter_map (offer_over table ends first u kept) kept ≡ eligible_windows table set ends first) (sym e) (eligible-near t set kept)
+  -- a cap is the same over any list with the same near jobs
+  cap_over-shuffle : IsTable table → (certain : ℕ) (xs ys : List ℕ) → IsShuffle (filter (is_near table certain) xs) (filter (is_near table certain) ys) → (j : ℕ) → cap_over table ends certain xs j ≡ cap_over table ends certain ys j
+  cap_over-shuffle t certain xs ys same j =
+      sym (cap_over-near t certain xs j) ∙ capped-shuffle (suc certain) (ready_beside table ends j) (λ x. has_urgency_over table x j) (filter (is_near table certain) xs) (filter (is_near table certain) ys) same ∙ cap_over-near t certain ys j
+
+  -- the jobs that have a window, in rising order, from any list with the same near jobs
+  windows-shuffle : (certain : ℕ) (all xs ys : List ℕ) → IsShuffle (filter (is_near table certain) xs) (filter (is_near table certain) ys) → (j : ℕ) →
+      sum_by (hits j) (filter (λ x. is_some (window_over table ends first certain all x)) xs) ≡ sum_by (hits j) (filter (λ x. is_some (window_over table ends first certain all x)) ys)
+  windows-shuffle certain all xs ys same j =
+      let p = λ (x : ℕ). is_some (window_over table ends first certain all x) in
+      let near = is_near table certain in
+      let kept = filter-kept p near (λ x h. ap is_some (window_over-far certain all x h)) in
+      ap (sum_by (hits j)) (sym (kept xs)) ∙ (IsShuffle-filter p (filter near xs) (filter near ys) same).sums (hits j) ∙ ap (sum_by (hits j)) (kept ys)
+
+  -- MAIN: the windows of a list with the same near jobs, by rising number
+  pub eligible-sorted : IsTable table → (set found : List ℕ) (w : ℕ) (into : List (ℕ × StartWindow)) → w ≡ certain_start table set ends first →
+      IsShuffle (filter (is_near table w) found) (filter (is_near table w) (candidates table set)) → IsPermutation (filter_map (offer_over table ends first w found) found) into →
+      IsNonDecreasingBy (λ (e : ℕ × StartWindow). e.0) into → into ≡ eligible_windows table set ends first
+  eligible-sorted t set found w into is same moved up =
+      let all = candidates table set in
+      let window = window_over table ends first w all in
+      let offer = offered window in
+      let has = λ (j : ℕ). is_some (window j) in
+      let key = λ (e : ℕ × StartWindow). e.0 in
+      let offers : filter_map (offer_over table ends first w found) found ≡ filter_map offer found =
+      filter_map-same (offer_over table ends first w found) offer (λ j. ap (λ c. option_map (λ u. (j, u)) (window_of (earliest_start table ends first j) c)) (cap_over-shuffle t w found all same j)) found in
+      let moved' : IsPermutation (filter_map offer found) into = subst (λ (l : List (ℕ × StartWindow)). IsPermutation l into) offers moved in
+      let own = recursion_from_All (λ e. offer e.0 ≡ Some e) into (All-permutation (λ e. offer e.0 ≡ Some e) (filter_map offer found) into moved' (All-from_recursion (λ e. offer e.0 ≡ Some e) (filter_map offer found) (offered-own window found))) in
+      let jobs : map key into ≡ filter has all =
+      rises-unique (map key into) (filter has all) (Rises-by key into up) (Rises-filter has all (Rises-filter (is_candidate table set) (numbers_below (length table.jobs)) (Rises-range 0 (length table.jobs))))
+      (λ j. sum_by-IsPermutation (hits j) (map key (filter_map offer found)) (map key into) (IsPermutation-map key (filter_map offer found) into moved')
+      ∙ ap (sum_by (hits j)) (offered-jobs window found) ∙ windows-shuffle w all found all same j) in
+      let back : filter_map offer all ≡ eligible_windows table set ends first =
+      subst (λ (u : ℕ). filter_map (offer_over table ends first u all) all ≡ eligible_windows table set ends first) (sym is) (sym (eligible-candidates set)) in
+      own_windows window into own ∙ ap (filter_map offer) jobs ∙ sym (offered-has window all) ∙ back
 
 -- ---- the first release of the jobs that are not dispatched
 

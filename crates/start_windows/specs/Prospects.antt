@@ -4,11 +4,19 @@
 --     cap_over, window_over, offer_over      the cap of j and its window, were xs the candidates
 --     is_near table w x        whether x may be released by w
 --     prospect_of, AreProspects              what is looked up of candidates
+--     IsByUrgency cs           each of the prospects is more urgent than all later ones
+--     is_tied c                whether predecessors hold it up after its latest release
+--     cap_behind               the cap of a job behind some that are more urgent
+--     IsShuffle xs ys          the same numbers, as often, in any order
+--     times_in xs j            how often j is in the list
 --     Collected                what a walk over some jobs has collected
-use Rattle.std.specs.Prelude.{◌≡◌, ◌≤◌, ◌<◌, ℕ, suc, Bool, List, [], ◌∷◌, ◌-◌, length, min, max, nat_lt, nat_le, map, filter, All, IfSome, Option, Some, None, if◌then◌else◌}
+use Rattle.std.specs.Prelude.{◌≡◌, ◌≤◌, ◌<◌, ℕ, suc, Bool, List, [], ◌∷◌, ◌-◌, ◌==◌, length, min, max, nat_lt, nat_le, not, map, filter, All, IfSome, IsTrue, Option, Some, None, if◌then◌else◌}
+use Rattle.std.specs.List.{count_by, sum_by}
 use Rattle.std.specs.Option.{option_map}
+use Rattle.job_sets.specs.Subset.{is_rising}
 use Rattle.job_model.specs.Numbers.{least}
-use Rattle.job_model.specs.Table.{Table, job_at, has_urgency_over}
+use Rattle.job_model.specs.Ranks.{rank_of}
+use Rattle.job_model.specs.Table.{Table, job_at, has_urgency_over, predecessors}
 use Rattle.sag_time.specs.Interval.{Interval}
 use Rattle.start_windows.specs.declared.StartWindow.{StartWindow}
 use Rattle.start_windows.specs.declared.eligibility.Prospect.{Prospect}
@@ -41,7 +49,7 @@ is_near table w x = nat_le (job_at table x).rmin w
 
 -- what is looked up of a candidate
 abbrev pub prospect_of : Table → List (ℕ × Interval) → ℕ → Prospect
-prospect_of table ends j = record { job = j; earliest = earliest_ready table ends j; latest = latest_ready table ends j; released = (job_at table j).rmax }
+prospect_of table ends j = record { job = j; rank = rank_of table j; earliest = earliest_ready table ends j; latest = latest_ready table ends j; released = (job_at table j).rmax }
 
 -- jobs of the table, looked up
 abbrev pub AreProspects : Table → List (ℕ × Interval) → List Prospect → Type 0
@@ -50,8 +58,30 @@ AreProspects table ends found = All (λ c. (c ≡ prospect_of table ends c.job) 
 abbrev pub jobs_of : List Prospect → List ℕ
 jobs_of found = map (λ c. c.job) found
 
+-- each of the prospects is more urgent than all later ones
+abbrev pub IsByUrgency : List Prospect → Type 0
+IsByUrgency found = IsTrue (is_rising (map (λ c. c.rank) found))
+
+-- predecessors hold it up after its latest release
+abbrev pub is_tied : Prospect → Bool
+is_tied c = not (c.latest == c.released)
+
+-- The cap of j behind more urgent jobs: after `last` one of them is certainly ready, and these are the tied ones. A job
+-- without predecessors shares none of theirs.
+abbrev pub cap_behind : Table → List (ℕ × Interval) → ℕ → List ℕ → ℕ → ℕ
+cap_behind table ends last tied j = if length (predecessors table j) == 0 then suc last else capped (suc last) (map (ready_beside table ends j) tied)
+
+-- The same numbers, as often, in any order: each sum is the same.
+pub record IsShuffle (xs ys : List ℕ) : Type 0 where
+  pub sums : (f : ℕ → ℕ) → sum_by f xs ≡ sum_by f ys
+
+-- how often j is in the list
+abbrev pub times_in : List ℕ → ℕ → ℕ
+times_in xs j = count_by (λ k. k == j) xs
+
 -- Of the jobs seen: the first moment at which a candidate is certainly ready, and the candidates but for some that are
 -- released too late to matter.
 pub record Collected (table : Table) (set : List ℕ) (ends : List (ℕ × Interval)) (first : Interval) (seen kept : List ℕ) (ready : Option ℕ) : Type 0 where
   pub ready_is : ready ≡ least (map (latest_ready table ends) (filter (is_candidate table set) seen))
   pub same_near : (w : ℕ) → IfSome ready (λ t. w ≤ max first.hi t) → filter (is_near table w) kept ≡ filter (is_near table w) (filter (is_candidate table set) seen)
+  pub once : (j : ℕ) → times_in kept j ≤ times_in seen j

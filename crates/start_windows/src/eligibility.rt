@@ -1,12 +1,15 @@
 // Which jobs may be the next to start.
 
-ghost use Rattle.std.specs.Prelude.{◌≡◌, ◌<◌, ◌↔◌, IfOk, IsSomeAnd, IsTrue, OnOk, filter, length, map, max};
+ghost use Rattle.std.specs.Prelude.{◌≡◌, ◌<◌, ◌↔◌, ◌++◌, [], suc, IfOk, IsSomeAnd, IsTrue, OnOk, filter, length, map, max};
+ghost use Rattle.std.specs.List.{cons_option, filter_map};
+ghost use Rattle.std.specs.Option.{option_map};
 ghost use Rattle.job_model.specs.Releases.{IsReleaseOrder};
 ghost use Rattle.job_model.specs.Table.{IsTable};
 ghost use Rattle.start_windows.specs.Window as windows;
 ghost use Rattle.start_windows.specs.Eligible.{IsOpenFrom, eligible_windows};
 ghost use Rattle.start_windows.specs.Eligible as all;
-ghost use Rattle.start_windows.specs.Prospects.{AreProspects, Collected, cap_over, is_near, jobs_of, prospect_of, window_of};
+ghost use Rattle.start_windows.specs.Prospects as prospects;
+ghost use Rattle.start_windows.specs.Prospects.{AreProspects, Collected, IsByUrgency, IsShuffle, cap_behind, capped, is_near, jobs_of, offer_over, prospect_of, window_of};
 
 use crate::windows::{candidate, earliest_ready, latest_ready, lesser, ready_beside};
 use crate::{Ends, StartWindow};
@@ -19,6 +22,8 @@ use std::alloc::AllocError;
 #[derive(Clone, Copy, PartialEq, Eq, Debug)]
 pub struct Prospect {
     job: JobNo,
+    // how many jobs are more urgent
+    rank: u16,
     // when it is ready at the earliest and at the latest
     earliest: u64,
     latest: u64,
@@ -33,10 +38,19 @@ fn look_up(table: &JobTable, ends: &Ends, job: JobNo) -> Prospect
 {
     Prospect {
         job,
+        rank: table.rank(job),
         earliest: earliest_ready(table, ends, job),
         latest: latest_ready(table, ends, job),
         released: table.job(job).rmax,
     }
+}
+
+// Whether predecessors may hold the job up after its latest release. Then it may be there sooner for a
+// job that shares some of them.
+fn is_tied(item: &Prospect) -> bool
+    ensures { result ≡ prospects.is_tied item.now }
+{
+    item.latest != item.released
 }
 
 // Whether the release comes after `first` and after the moment of `ready`, if there is one.
@@ -87,7 +101,7 @@ fn walk(
     Ok(ready)
 }
 
-// As `walk`, by rising number, and gives the moment by which one of them certainly starts.
+// As `walk`, by falling urgency, and gives the moment by which one of them certainly starts.
 fn collect(
     table: &JobTable,
     set: &JobSet,
@@ -102,48 +116,48 @@ fn collect(
     requires from { IsOpenFrom table.now set.now.members from }
     ensures table { IsTable table.now }
     ensures prospects { OnOk result (AreProspects table.now ends.now.items found.new.items) }
+    ensures urgency { OnOk result (IsByUrgency found.new.items) }
     ensures certain { IfOk result (λ w. w ≡ windows.certain_start table.now set.now.members ends.now.items first) }
-    ensures near { IfOk result (λ w. filter (is_near table.now w) (jobs_of found.new.items)
-        ≡ filter (is_near table.now w) (windows.candidates table.now set.now.members)) }
+    ensures near { IfOk result (λ w. IsShuffle (filter (is_near table.now w) (jobs_of found.new.items))
+        (filter (is_near table.now w) (windows.candidates table.now set.now.members))) }
 {
     let ready = walk(table, set, ends, first, order, from, found)?;
-    found.sort_unstable_by_key(|item| item.job.0);
+    found.sort_unstable_by_key(|item| item.rank);
     Ok(first.hi().max(ready.unwrap_or(0)))
 }
 
-// When `other`, which is more urgent, is certainly ready once the job is.
-fn limit(table: &JobTable, ends: &Ends, job: JobNo, other: Prospect) -> u64
-    requires job { other.job < length table.now.jobs }
-    requires prospect { other ≡ prospect_of table.now ends.now.items other.job }
-    ensures { result ≡ windows.ready_beside table.now ends.now.items job other.job }
+// The window from `est` to `last`, if that is no earlier.
+fn window_up_to(est: u64, last: u64) -> Option<StartWindow>
+    ensures { result ≡ window_of est (suc last) }
 {
-    if other.latest == other.released {
-        other.released
+    if est <= last {
+        Some(StartWindow { est, lst: last })
     } else {
-        ready_beside(table, ends, job, other.job)
+        None
     }
 }
 
-// The window of a job that starts no earlier than `est`, were those found the candidates.
-fn window_among(
+// The window from `est` to `last` of a job, but for the moments at which one of these, which are
+// more urgent, is certainly there.
+fn window_beside(
     table: &JobTable,
     ends: &Ends,
-    certain: u64,
-    found: &[Prospect],
+    urgent: &[Prospect],
     job: JobNo,
     est: u64,
+    last: u64,
 ) -> Option<StartWindow>
-    requires prospects { AreProspects table.now ends.now.items found.now }
-    requires job { job < length table.now.jobs }
-    ensures { result ≡ window_of est (cap_over table.now ends.now.items certain (jobs_of found.now) job) }
+    requires prospects { AreProspects table.now ends.now.items urgent.now }
+    ensures { result ≡ window_of est
+        (capped (suc last) (map (windows.ready_beside table.now ends.now.items job) (jobs_of urgent.now))) }
 {
-    if certain < est {
+    if last < est {
         return None;
     }
-    let mut lst = certain;
-    for other in found {
-        if other.released <= lst && table.urgent(other.job, job) {
-            let limit = limit(table, ends, job, *other);
+    let mut lst = last;
+    for other in urgent {
+        if other.released <= lst {
+            let limit = ready_beside(table, ends, job, other.job);
             if limit <= est {
                 return None;
             }
@@ -151,6 +165,79 @@ fn window_among(
         }
     }
     Some(StartWindow { est, lst })
+}
+
+// The window of a job behind more urgent ones: `last` is the last start before one of them is
+// certainly ready, and `tied` are those that predecessors hold up.
+fn window_behind(
+    table: &JobTable,
+    ends: &Ends,
+    first: Span,
+    last: u64,
+    tied: &[Prospect],
+    item: &Prospect,
+) -> Option<StartWindow>
+    requires { AreProspects table.now ends.now.items tied.now }
+    ensures { result ≡ window_of (max item.now.earliest first.lo)
+        (cap_behind table.now ends.now.items last (jobs_of tied.now) item.now.job) }
+{
+    let est = item.earliest.max(first.lo());
+    if table.preds(item.job).is_empty() {
+        window_up_to(est, last)
+    } else {
+        window_beside(table, ends, tied, item.job, est, last)
+    }
+}
+
+// Appends the job with its window, if it has one.
+fn push_window(
+    into: &mut Vec<(JobNo, StartWindow)>,
+    job: JobNo,
+    window: Option<StartWindow>,
+) -> Result<(), AllocError>
+    ensures { OnOk result (into.new.items ≡ into.old.items ++ cons_option (option_map (λ w. (job, w)) window) []) }
+{
+    if let Some(window) = window {
+        into.push((job, window))?;
+    }
+    Ok(())
+}
+
+// Lists the prospects that have a window, with it. They stand by falling urgency, and are in
+// disorder after that.
+fn windows_by_urgency(
+    table: &JobTable,
+    ends: &Ends,
+    first: Span,
+    certain: u64,
+    ranked: &mut [Prospect],
+    into: &mut Vec<(JobNo, StartWindow)>,
+) -> Result<(), AllocError>
+    requires table { IsTable table.now }
+    requires prospects { AreProspects table.now ends.now.items ranked.old }
+    requires urgency { IsByUrgency ranked.old }
+    ensures { OnOk result (into.new.items ≡ filter_map
+        (offer_over table.now ends.now.items first certain (jobs_of ranked.old)) (jobs_of ranked.old)) }
+{
+    into.clear();
+    // the last start before one of the jobs so far is certainly ready
+    let mut last = certain;
+    // the tied ones are kept at the start of the list
+    let mut tied = 0;
+    for place in 0..ranked.len() {
+        let item = ranked[place];
+        let window = window_behind(table, ends, first, last, &ranked[..tied], &item);
+        push_window(into, item.job, window)?;
+        if item.latest <= first.lo() {
+            return Ok(());
+        }
+        last = last.min(item.latest - 1);
+        if is_tied(&item) {
+            ranked[tied] = item;
+            tied += 1;
+        }
+    }
+    Ok(())
 }
 
 // The earliest release of the jobs that are not dispatched, or `from` where all are.
@@ -190,14 +277,9 @@ pub fn eligible(
     ensures next { IfOk result (λ next. next ≡ all.first_release table.now set.now.members from) }
     ensures from { IfOk result (IsOpenFrom table.now set.now.members) }
 {
-    into.clear();
     let order = table.by_release();
     let certain = collect(table, set, ends, first, order, from, found)?;
-    for item in found.iter() {
-        let est = item.earliest.max(first.lo());
-        if let Some(window) = window_among(table, ends, certain, found, item.job, est) {
-            into.push((item.job, window))?;
-        }
-    }
+    windows_by_urgency(table, ends, first, certain, found, into)?;
+    into.sort_unstable_by_key(|(job, _)| job.0);
     Ok(first_release(table, set, order, from))
 }

@@ -230,17 +230,24 @@ impl Numbers {
     }
 }
 
-// A table of so many jobs, of few priorities and close releases. Some wait for an earlier one.
-fn generated(alloc: Global, numbers: &mut Numbers, count: u16) -> Result<JobTable, Fail> {
+// A table of so many jobs, of few priorities, released up to `latest` and a little later. Some wait
+// for one of the jobs up to `before`.
+fn generated(
+    alloc: Global,
+    numbers: &mut Numbers,
+    count: u16,
+    latest: u16,
+    before: u16,
+) -> Result<JobTable, Fail> {
     let mut rows = Vec::new(alloc);
     let mut edges = Vec::new(alloc);
     for no in 0..count {
-        let rmin = numbers.below(30);
-        let rmax = rmin + numbers.below(8);
+        let rmin = numbers.below(u64::from(latest) + 1);
+        let rmax = rmin + numbers.below(u64::from(latest) / 4 + 1);
         let cmin = 1 + numbers.below(4);
         let cmax = cmin + numbers.below(4);
         rows.push(job(u64::from(no), (rmin, rmax), (cmin, cmax), numbers.below(4)))?;
-        let earlier = numbers.below(30);
+        let earlier = numbers.below(u64::from(before) + 1);
         if earlier < u64::from(no) {
             edges.push((earlier as u16, no))?;
         }
@@ -312,8 +319,16 @@ fn dispatched(alloc: Global, numbers: &mut Numbers, table: &JobTable) -> Result<
 fn finds_the_same_job_by_job(rt: HostRuntime) -> Result<(), Fail> {
     let alloc = rt.alloc();
     let mut numbers = Numbers(1);
-    for count in [1, 8, 24] {
-        let table = generated(alloc, &mut numbers, count)?;
+    // of the last two tables many are near at once, and predecessors hold several up
+    let tables = [
+        (1, 29, 29),
+        (8, 29, 29),
+        (24, 29, 29),
+        (24, 3, 5),
+        (24, 8, 11),
+    ];
+    for (count, latest, before) in tables {
+        let table = generated(alloc, &mut numbers, count, latest, before)?;
         assert_eq!(rt; dispatched(alloc, &mut numbers, &table)?, count);
     }
     Ok(())

@@ -28,7 +28,7 @@ last_before-le : (limit : Option ℕ) (t : ℕ) → last_before limit t ≤ t
 last_before-le None t = omega arith
 last_before-le (Some limit) t = omega arith
 
-le-last_before : (s t : ℕ) (limit : Option ℕ) → s ≤ t → is_before s limit ≡ true → s ≤ last_before limit t
+pub le-last_before : (s t : ℕ) (limit : Option ℕ) → s ≤ t → is_before s limit ≡ true → s ≤ last_before limit t
 le-last_before s t None h e = h
 le-last_before s t (Some limit) h e = omega (arith, h, ltb-true s limit e)
 

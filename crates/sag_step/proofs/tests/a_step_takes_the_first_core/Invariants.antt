@@ -1,4 +1,0 @@
-use Rattle.sag_step.proofs.tests.a_step_takes_the_first_core.Given as goal
-
-abbrev pub ghosts-first_step : goal.ghosts-first_step
-ghosts-first_step g a = record { name = a.blank.name; parts = a.blank.parts }
