@@ -2,6 +2,7 @@
 use Rattle.std.proofs.Common.{◌≡◌, ℕ, ◌+◌, ◌<◌, ◌≤◌, ◌^◌, Bool, true, false, List, [], ◌++◌, length, take, Option, Some, None, Ok, Err, refl, sym, ap, subst, ◌∙◌, arith, length-take-le, lit<}
 use Rattle.cert_text.specs.declared.fault.FeedFault.{FeedFault}
 use Rattle.cert_text.specs.declared.fault.FeedFault.TheVariants as fault
+use Rattle.cert_text.specs.declared.feed.LineFault.{LineFault}
 use Rattle.cert_text.specs.declared.feed.LineFault.TheVariants as line_fault
 use Rattle.cert_text.specs.declared.feed.Progress.TheVariants as progress
 use Rattle.cert_text.specs.declared.line.CertLine.{CertLine}
@@ -12,7 +13,7 @@ use Rattle.cert_text.specs.declared.spot.Spot.{Spot}
 use Rattle.cert_text.specs.declared.spot.Spot.TheVariants as spot
 use Rattle.cert_text.specs.Spelling.{first_version, FitsLine}
 use Rattle.cert_text.specs.Taken.{HoldsOpen, Fault, Takes}
-use Rattle.cert_text.specs.Reading.{Reading, IfOpen, IfReady, AfterPiece, Stands, standing_at, held_of, is_end, lines_of, IsReadable, Lacks}
+use Rattle.cert_text.specs.Reading.{Reading, IfOpen, IfReady, AfterPiece, Stands, standing_at, held_of, is_end, lines_of, fault_behind, HasPlace, IsReadable, Lacks}
 use Rattle.cert_text.specs.Machine.{no_items, Step, On, Whole, Wrong, steps, start, shown}
 use Rattle.cert_text.specs.Kept.{IsOn, TakesPiece}
 use Rattle.cert_text.proofs.Runs.{run_holds}
@@ -154,6 +155,32 @@ wrong_short lines ended d e p q at g s piece i k eg es t =
     let on = on_reader g s (standing_at lines ended) (On d p) (take i piece) eg es t.1 in
     let o = on_at (steps first_version (standing_at lines ended) (On d p) (take i piece)) on in
     omega (arith, stands_short lines ended o.draft o.spot (at + length (take i piece)) (stands_on (take i piece) lines ended d o.draft p o.spot at k o.is), length-take-le i piece (omega (arith, t.0)))
+
+-- ---- the piece is not taken
+
+-- a reader behind want of memory
+abbrev no_memory : Option CertLine → Reading
+no_memory w = record { held = Fault fault.Memory; waiting = w }
+
+memory_ready : (kept : Option FeedFault) (lines : ℕ) (rest : List ℕ) (ended : Bool) (w : Option CertLine)
+    → IfReady (held_of kept lines rest ended) w (λ line. no_memory w ≡ no_memory None)
+memory_ready (Some f) lines rest ended None = tt
+memory_ready (Some f) lines rest ended (Some l) = tt
+memory_ready None lines rest ended (Some l) = tt
+memory_ready None lines rest ended None = refl
+
+pub err_takes : (old : Reading) (kept : Option FeedFault) (lines : ℕ) (ended : Bool) (d e : Draft) (p q : Spot) (at : ℕ) (w : Option CertLine) (g : Grammar) (s : Standing) (piece : List ℕ) (f : LineFault)
+    → seen kept lines ended d p w ≡ old → Stands lines ended d p at → g ≡ first_version → s ≡ standing_at lines ended → TakesPiece g s (On d p) piece (Err f) e q
+    → IfReady old.held old.waiting (λ rest. AfterPiece old.held rest piece (Err (fault_behind lines at f)) (record { held = Fault (fault_behind lines at f); waiting = w }))
+err_takes old kept lines ended d e p q at w g s piece (line_fault.Wrong i) view k eg es t = wrong_takes old kept lines ended d e p q at w g s piece i view k eg es t
+err_takes old kept lines ended d e p q at w g s piece line_fault.Memory view k eg es t =
+    subst (λ (o : Reading). IfReady o.held o.waiting (λ rest. AfterPiece o.held rest piece (Err fault.Memory) (no_memory w))) view
+    (memory_ready kept lines (shown first_version d p) ended w)
+
+pub err_place : (lines : ℕ) (ended : Bool) (d e : Draft) (p q : Spot) (at : ℕ) (g : Grammar) (s : Standing) (piece : List ℕ) (f : LineFault) → Stands lines ended d p at
+    → g ≡ first_version → s ≡ standing_at lines ended → TakesPiece g s (On d p) piece (Err f) e q → HasPlace at f
+err_place lines ended d e p q at g s piece (line_fault.Wrong i) k eg es t = omega (arith, wrong_short lines ended d e p q at g s piece i k eg es t)
+err_place lines ended d e p q at g s piece line_fault.Memory k eg es t = tt
 
 -- ---- the end
 

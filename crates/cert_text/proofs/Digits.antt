@@ -67,6 +67,15 @@ more-digit g s d p n ten fits =
     let m : nat_le n most_number ≡ true = le-leb n most_number (omega arith) in
     rw (a, z, back, m) refl
 
+-- a further digit, where any fits
+pub any-digit : (g : Grammar) (s : Standing) (d : Draft) (p : Place) (value b : ℕ) → is_digit b ≡ true → 1 ≤ value → value < 461168601842738790
+    → step g s d (spot.Digits p value) b ≡ On d (spot.Digits p (value * 10 + (b - 48)))
+any-digit g s d p value b h some few =
+    let r = digit-true b h in
+    let z : (value == 0) ≡ false = ne_eqb value 0 (λ e. omega (arith, e, some)) in
+    let m : nat_le (value * 10 + (b - 48)) most_number ≡ true = le-leb (value * 10 + (b - 48)) most_number (omega (arith, few, r.1)) in
+    rw (h, z, m) refl
+
 one-digit : (d : Draft) (p : Place) (m : ℕ) → m < 10 → first_digit d p (48 + m) ≡ On d (spot.Digits p m)
 one-digit d p m lt =
     let a : is_digit (48 + m) ≡ true = digit-is m lt in

@@ -1,6 +1,6 @@
 -- A line ends with its LF, and has none before.
-use Rattle.std.proofs.Common.{◌≡◌, ℕ, zero, suc, ◌+◌, ◌-◌, ◌*◌, ◌<◌, ◌==◌, nat_le, nat_lt, Bool, true, false, cond, List, [], ◌∷◌, length, get_or, refl, sym, subst, arith, codes}
-use Rattle.std.proofs.lemmas.Bool.{eqb-true, ne_eqb}
+use Rattle.std.proofs.Common.{◌≡◌, ℕ, zero, suc, ◌+◌, ◌-◌, ◌*◌, ◌<◌, ◌==◌, nat_le, nat_lt, Bool, true, false, cond, List, [], ◌∷◌, length, get_or, refl, sym, ap, subst, ◌∙◌, arith, codes}
+use Rattle.std.proofs.lemmas.Bool.{eqb-true, eqb-false, eq-eqb, ne_eqb}
 use Rattle.cert_text.specs.declared.line.Mark.{Mark}
 use Rattle.cert_text.specs.declared.line.Mark.TheVariants as mark
 use Rattle.cert_text.specs.declared.spot.Grammar.{Grammar}
@@ -15,7 +15,7 @@ use Rattle.cert_text.specs.declared.spot.Marked.{Marked}
 use Rattle.cert_text.specs.declared.spot.Spot.{Spot}
 use Rattle.cert_text.specs.declared.spot.Spot.TheVariants as spot
 use Rattle.cert_text.specs.Spelling.{mark_text}
-use Rattle.cert_text.specs.Machine.{Step, On, Whole, Wrong, is_digit, most_number, word_text, after_word, begin, digit, first_digit, with_pair, with_end, after_root, after_ends, after_number, marked_line, step}
+use Rattle.cert_text.specs.Machine.{Step, On, Whole, Wrong, Opens, is_digit, most_number, word_text, after_word, in_word, begin, digit, first_digit, with_pair, with_end, after_root, after_ends, after_number, marked_line, step}
 use Rattle.cert_text.specs.Kept.{KeptSpot}
 use Rattle.cert_text.proofs.Digits.{digit-true}
 
@@ -150,3 +150,23 @@ step_lf g v s d (spot.PairGap parent job) b k = at_byte b 124 _ _ refl (where_so
 step_lf g v s d (spot.Barred parent job) b k = ends_lf g d parent job b
 step_lf g v s d (spot.MarkDue to) b k = at_byte b 111 _ _ refl (wanted b 109 _ refl)
 step_lf g v s d (spot.InMark to m at) b k = wanted b (get_or (mark_text m) at 0) _ (mark_lf d to m at k.1)
+
+-- ---- the last byte of a word
+
+ends_word : (g : Grammar) (w : Word) (at b : ℕ) (x y : Step) → b ≡ get_or (word_text g w) at 0 → at + 1 ≡ length (word_text g w)
+    → cond (b == get_or (word_text g w) at 0) (cond (at + 1 == length (word_text g w)) x y) Wrong ≡ x
+ends_word g w at b x y e f = rw (eq-eqb b (get_or (word_text g w) at 0) e, eq-eqb (at + 1) (length (word_text g w)) f) refl
+
+pub word_opens : (g : Grammar) (w : Word) (at b : ℕ) (q : Spot) (d : Draft) → (b == 10) ≡ false → b ≡ get_or (word_text g w) at 0 → at + 1 ≡ length (word_text g w)
+    → Opens w q → in_word g d w at b ≡ On d q
+word_opens g word.Head at b q d n e f o = ends_word g word.Head at b _ _ e f ∙ o d
+word_opens g word.Level at b q d n e f o = ends_word g word.Level at b _ _ e f ∙ o d
+word_opens g word.Root at b q d n e f o = ends_word g word.Root at b _ _ e f ∙ o d
+word_opens g word.State at b q d n e f o = ends_word g word.State at b _ _ e f ∙ o d
+word_opens g word.Edge at b q d n e f o = ends_word g word.Edge at b _ _ e f ∙ o d
+word_opens g word.Job at b q d n e f o = ends_word g word.Job at b _ _ e f ∙ o d
+word_opens g word.Verdict at b q d n e f o = ends_word g word.Verdict at b _ _ e f ∙ o d
+word_opens g word.End at b q d n e f o =
+    let last : at ≡ 3 = omega (arith, f) in
+    let lf : b ≡ 10 = e ∙ ap (λ (k : ℕ). get_or (codes "end\n") k 0) last in
+    absurd (eqb-false b 10 n lf)

@@ -87,6 +87,15 @@ KeptSpot g d (spot.Barred parent job) = StateFits g d parent job
 KeptSpot g d (spot.MarkDue to) = KeptMarked to
 KeptSpot g d (spot.InMark to m at) = KeptMarked to × (at < length (mark_text m))
 
+-- Further digits take a number from one value to another.
+abbrev pub DigitsLead : ℕ → List ℕ → ℕ → Type 0
+DigitsLead from digits to =
+    (g : Grammar) (s : Standing) (d : Draft) (p : Place) → steps g s (On d (spot.Digits p from)) digits ≡ On d (spot.Digits p to)
+
+-- Bytes take a line from one spot to another, and add no items.
+abbrev pub Leads : Standing → Spot → List ℕ → Spot → Type 0
+Leads s from bytes to = (g : Grammar) (d : Draft) → KeptSpot g d from → steps g s (On d from) bytes ≡ On d to
+
 -- within a line
 abbrev pub IsOn : Step → Type 0
 IsOn (On d p) = Unit {0}
@@ -101,3 +110,10 @@ TakesPiece g s now piece (Ok (progress.Line n l)) d p =
 TakesPiece g s now piece (Err (line_fault.Wrong i)) d p =
     (i < length piece) × IsOn (steps g s now (take i piece)) × (steps g s now (take (i + 1) piece) ≡ Wrong)
 TakesPiece g s now piece (Err line_fault.Memory) d p = Unit {0}
+
+-- What taking the LF with this index in a piece gives.
+abbrev pub EndsPiece : Step → ℕ → Result Progress LineFault → Draft → Spot → Type 0
+EndsPiece now i (Ok (progress.Part n)) d p = ⊥
+EndsPiece now i (Ok (progress.Line n l)) d p = (n ≡ i + 1) × (now ≡ Whole l) × (d ≡ no_items) × (p ≡ spot.Start)
+EndsPiece now i (Err (line_fault.Wrong j)) d p = (j ≡ i) × (now ≡ Wrong)
+EndsPiece now i (Err line_fault.Memory) d p = Unit {0}

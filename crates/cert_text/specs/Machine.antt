@@ -23,8 +23,6 @@ use Rattle.cert_text.specs.declared.spot.Standing.{Standing}
 use Rattle.cert_text.specs.declared.spot.Standing.TheVariants as standing
 use Rattle.cert_text.specs.declared.spot.Spot.{Spot}
 use Rattle.cert_text.specs.declared.spot.Spot.TheVariants as spot
-use Rattle.cert_text.specs.declared.machine.Next.{Next}
-use Rattle.cert_text.specs.declared.machine.Next.TheVariants as next
 use Rattle.cert_text.specs.declared.machine.StepFault.{StepFault}
 use Rattle.cert_text.specs.declared.machine.StepFault.TheVariants as fault
 use Rattle.cert_text.specs.Spelling.{head_word, mark_text, pair_text, state_pairs, state_ends}
@@ -264,9 +262,27 @@ shown g d (spot.Barred parent job) = state_ends parent job d.pairs d.ends
 shown g d (spot.MarkDue to) = mark_front to
 shown g d (spot.InMark to m at) = mark_front to ++ take at (mark_text m)
 
--- what taking a byte gives
-abbrev pub Gives : Step → Result Next StepFault → Draft → Type 0
-Gives now (Ok (next.On p)) d = now ≡ On d p
-Gives now (Ok (next.Whole l)) d = now ≡ Whole l
-Gives now (Err fault.Wrong) d = now ≡ Wrong
-Gives now (Err fault.Memory) d = Unit {0}
+-- what taking a byte within a line gives
+abbrev pub Gives : Step → Result Unit StepFault → Draft → Spot → Type 0
+Gives now (Ok u) d p = now ≡ On d p
+Gives now (Err fault.Wrong) d p = now ≡ Wrong
+Gives now (Err fault.Memory) d p = Unit {0}
+
+-- what taking the byte behind a line gives
+abbrev pub Ends : Step → Result CertLine StepFault → Type 0
+Ends now (Ok l) = now ≡ Whole l
+Ends now (Err fault.Wrong) = now ≡ Wrong
+Ends now (Err fault.Memory) = Unit {0}
+
+-- the number is not the last of a pair, of an end or of a job line
+abbrev pub IsInner : Place → Type 0
+IsInner (place.RootHi lo) = ⊥
+IsInner (place.PairHi parent job lo) = ⊥
+IsInner (place.EndHi parent job of lo) = ⊥
+IsInner (place.JobHi number lo) = ⊥
+IsInner other = Unit {0}
+
+-- where the last byte of a word leads, of other lines than the end
+abbrev pub Opens : Word → Spot → Type 0
+Opens word.End p = Unit {0}
+Opens w p = (d : Draft) → after_word d w ≡ On d p

@@ -3,9 +3,11 @@
 --     Reading              what the reader holds, and the line that waits
 --     AfterPiece           what a call that takes a piece leaves
 --     Closes               what the end of the bytes gives
-use Rattle.std.specs.Prelude.{ℕ, ◌≡◌, ◌+◌, ◌==◌, List, [], ◌∷◌, ◌++◌, length, cond, Bool, true, false, count_by, Option, Some, None, Result, Ok, Err}
+use Rattle.std.specs.Prelude.{ℕ, ◌≡◌, ◌<◌, ◌+◌, ◌^◌, ◌==◌, List, [], ◌∷◌, ◌++◌, length, cond, Bool, true, false, count_by, Option, Some, None, Result, Ok, Err}
 use Rattle.cert_text.specs.declared.fault.FeedFault.{FeedFault}
 use Rattle.cert_text.specs.declared.fault.FeedFault.TheVariants as fault
+use Rattle.cert_text.specs.declared.feed.LineFault.{LineFault}
+use Rattle.cert_text.specs.declared.feed.LineFault.TheVariants as line_fault
 use Rattle.cert_text.specs.declared.line.CertLine.{CertLine}
 use Rattle.cert_text.specs.declared.line.CertLine.TheVariants as line
 use Rattle.cert_text.specs.declared.spot.Draft.{Draft}
@@ -115,6 +117,16 @@ standing_at lines ended = cond ended standing.Over (cond (lines == 0) standing.F
 abbrev pub held_of : Option FeedFault → ℕ → List ℕ → Bool → Held
 held_of None lines rest ended = Open lines rest ended
 held_of (Some f) lines rest ended = Fault f
+
+-- the fault behind so many lines and bytes of the next, where a byte of a piece is wrong or memory ran out
+abbrev pub fault_behind : ℕ → ℕ → LineFault → FeedFault
+fault_behind lines at (line_fault.Wrong i) = fault.Text (lines + 1) (at + i + 1)
+fault_behind lines at line_fault.Memory = fault.Memory
+
+-- the place of the wrong byte is a number of 64 bits
+abbrev pub HasPlace : ℕ → LineFault → Type 0
+HasPlace at (line_fault.Wrong i) = at + i + 1 < 2 ^ 64
+HasPlace at line_fault.Memory = Unit {0}
 
 -- The spot is where the bytes of the line lead, and these are so many.
 pub record Stands (lines : ℕ) (ended : Bool) (draft : Draft) (place : Spot) (at : ℕ) : Type 0 where

@@ -1,7 +1,7 @@
 //! A reader of certificates, over any pieces.
 
 ghost use Rattle.std.specs.Prelude.{◌≡◌, ◌≤◌, ◌<◌, ◌+◌, ◌^◌, ℕ, List, [], length, false, None, IfOk, IfSome};
-ghost use Rattle.cert_text.specs.Reading.{AfterPiece, Closes, IfFault, IfOpen, IfReady, IfWaiting, is_end, lines_of, standing_at};
+ghost use Rattle.cert_text.specs.Reading.{AfterPiece, Closes, HasPlace, IfFault, IfOpen, IfReady, IfWaiting, fault_behind, is_end, lines_of, standing_at};
 ghost use Rattle.cert_text.specs.Spelling.{first_version, FitsLine};
 ghost use Rattle.cert_text.specs.Taken.{Open, Takes};
 
@@ -63,6 +63,21 @@ fn standing_behind(lines: u64, ended: bool) -> Standing
     }
 }
 
+// The fault of a reader that holds so many lines, and so many bytes of the next.
+fn feed_fault(lines: u64, at: u64, fault: LineFault) -> FeedFault
+    requires lines { lines ≤ 2 ^ 63 }
+    requires place { HasPlace at fault }
+    ensures { result ≡ fault_behind lines at fault }
+{
+    match fault {
+        LineFault::Wrong(index) => FeedFault::Text {
+            line: lines + 1,
+            byte: at + index as u64 + 1,
+        },
+        LineFault::Memory => FeedFault::Memory,
+    }
+}
+
 impl CertReader {
     /// A reader of no bytes.
     pub fn new(alloc: Global) -> CertReader
@@ -118,23 +133,13 @@ impl CertReader {
                 self.waiting = Some(line);
                 Ok(count)
             }
-            Err(LineFault::Wrong(index)) => {
-                let fault = FeedFault::Text {
-                    line: self.lines + 1,
-                    byte: self.at + index as u64 + 1,
-                };
+            Err(fault) => {
+                let fault = feed_fault(self.lines, self.at, fault);
                 self.draft = no_draft(self.alloc);
                 self.spot = Spot::Start;
                 self.at = 0;
                 self.fault = Some(fault);
                 Err(fault)
-            }
-            Err(LineFault::Memory) => {
-                self.draft = no_draft(self.alloc);
-                self.spot = Spot::Start;
-                self.at = 0;
-                self.fault = Some(FeedFault::Memory);
-                Err(FeedFault::Memory)
             }
         }
     }

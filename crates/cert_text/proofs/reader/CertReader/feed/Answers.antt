@@ -1,5 +1,5 @@
 use Rattle.std.proofs.Common.{◌+◌, arith}
-use Rattle.cert_text.proofs.Clauses.{part_takes, part_stands, part_short, line_takes, line_stands, line_fits, lines_more, wrong_takes, wrong_short}
+use Rattle.cert_text.proofs.Clauses.{part_takes, part_stands, part_short, line_takes, line_stands, line_fits, lines_more, err_takes, err_place}
 use Rattle.cert_text.proofs.reader.CertReader.feed.Goals as goal
 
 pub overflow_add-self : goal.overflow_add-self
@@ -20,23 +20,11 @@ invariant_of-self c =
       c.self.invariant.2,
     )
 
-pub overflow_add-fault-in-Err-Wrong : goal.overflow_add-fault-in-Err-Wrong
-overflow_add-fault-in-Err-Wrong c =
+pub feed_fault-fault-requires-clause-place : goal.feed_fault-fault-requires-clause-place
+feed_fault-fault-requires-clause-place c =
     let r = c.self.inside in
-    omega (
-      arith,
-      wrong_short r.lines r.ended r.draft c.take_piece.new.draft r.spot c.take_piece.new.spot r.at c.first_version.result c.standing_behind-standing.result c.args.piece.now c.in-Err-Wrong.index
-          c.self.invariant.0 c.first_version.ensures c.standing_behind-standing.ensures (rw c.in-Err-Wrong.field-0-is at c.in-Err-Wrong.ensures),
-    )
-
-pub overflow_add-fault-in-Err-Wrong-2 : goal.overflow_add-fault-in-Err-Wrong-2
-overflow_add-fault-in-Err-Wrong-2 c =
-    let r = c.self.inside in
-    omega (
-      arith,
-      wrong_short r.lines r.ended r.draft c.take_piece.new.draft r.spot c.take_piece.new.spot r.at c.first_version.result c.standing_behind-standing.result c.args.piece.now c.in-Err-Wrong.index
-          c.self.invariant.0 c.first_version.ensures c.standing_behind-standing.ensures (rw c.in-Err-Wrong.field-0-is at c.in-Err-Wrong.ensures),
-    )
+    err_place r.lines r.ended r.draft c.take_piece.new.draft r.spot c.take_piece.new.spot r.at c.first_version.result c.standing_behind-standing.result c.args.piece.now c.in-Err.fault
+    c.self.invariant.0 c.first_version.ensures c.standing_behind-standing.ensures c.in-Err.ensures
 
 pub returns-in-Ok-Part-clause-takes : goal.returns-in-Ok-Part-clause-takes
 returns-in-Ok-Part-clause-takes c =
@@ -50,11 +38,12 @@ returns-in-Ok-Line-clause-takes c =
     line_takes c.args.self.now r.fault r.lines r.ended r.draft c.take_piece.new.draft r.spot c.take_piece.new.spot r.at r.waiting c.first_version.result c.standing_behind-standing.result c.args.piece.now c.in-Ok-Line.count c.in-Ok-Line.line c.is_end_line-self-inside.result
     c.self.view_is c.self.invariant.0 c.first_version.ensures c.standing_behind-standing.ensures c.is_end_line-self-inside.ensures (rw c.in-Ok-Line.field-0-is at c.in-Ok-Line.ensures)
 
-pub returns-in-Err-Wrong-clause-takes : goal.returns-in-Err-Wrong-clause-takes
-returns-in-Err-Wrong-clause-takes c =
+pub returns-in-Err-clause-takes : goal.returns-in-Err-clause-takes
+returns-in-Err-clause-takes c =
     let r = c.self.inside in
-    wrong_takes c.args.self.now r.fault r.lines r.ended r.draft c.take_piece.new.draft r.spot c.take_piece.new.spot r.at r.waiting c.first_version.result c.standing_behind-standing.result c.args.piece.now c.in-Err-Wrong.index
-    c.self.view_is c.self.invariant.0 c.first_version.ensures c.standing_behind-standing.ensures (rw c.in-Err-Wrong.field-0-is at c.in-Err-Wrong.ensures)
+    rw c.feed_fault-fault.ensures
+    (err_takes c.args.self.now r.fault r.lines r.ended r.draft c.take_piece.new.draft r.spot c.take_piece.new.spot r.at r.waiting c.first_version.result c.standing_behind-standing.result c.args.piece.now c.in-Err.fault
+    c.self.view_is c.self.invariant.0 c.first_version.ensures c.standing_behind-standing.ensures c.in-Err.ensures)
 
 pub invariant_of-self-in-Ok-Line : goal.invariant_of-self-in-Ok-Line
 invariant_of-self-in-Ok-Line c =
