@@ -4,6 +4,5 @@ mod InHeaps
 mod Lacking
 mod NextTurn
 mod Queued
-mod ScheduleLemmas
 mod Standing
 mod Unblocked

@@ -2,4 +2,3 @@ pub mod Cores
 pub mod Queues
 pub mod Standing
 pub mod ScheduleText
-pub mod ScheduleRows

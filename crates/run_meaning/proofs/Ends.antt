@@ -1,6 +1,5 @@
 -- When the jobs of a legal schedule finish at the latest.
 use Rattle.std.proofs.Common.{◌≡◌, ℕ, ◌+◌, ◌*◌, ◌<◌, ◌≤◌, ◌⊎◌, inl, inr, true, false, List, length, get_or, sym, ap, ◌∙◌, arith}
-use Rattle.std.specs.Prelude.{Contains}
 use Rattle.std.proofs.Math.Nat.{mul-le-mul_right}
 use Rattle.std.proofs.lemmas.Bool.{cases_lt, cases_order}
 use Rattle.std.proofs.lemmas.List.{get_or_default}
@@ -13,7 +12,7 @@ use Rattle.run_meaning.specs.Legal.{Legal, IsBusy}
 use Rattle.run_meaning.specs.Order.{dispatch_order, starts_earlier}
 use Rattle.run_meaning.specs.Laws.{RunsEnd}
 use Rattle.run_meaning.proofs.OrderLaws.{length-dispatch_order}
-use Rattle.run_meaning.proofs.OrderMembers.{dispatch_contains}
+use Rattle.run_meaning.proofs.OrderMembers.{Placed, placed}
 use Rattle.run_meaning.proofs.Sorted.{dispatch_below, dispatch_sorted, earlier-start, earlier_one_way, predecessors_come_earlier, recursion_at}
 use Rattle.run_meaning.proofs.StartsAgree.{by_lesser, predecessors_below, ready_by}
 
@@ -35,31 +34,15 @@ module _ (table : Table) (m : ℕ) (scenario : List (ℕ × ℕ)) (schedule : Li
   nth_below : (k : ℕ) → k < length table.jobs → nth k < length table.jobs
   nth_below k below = recursion_at (λ j. j < length table.jobs) (dispatch_order table schedule) k 0 (dispatch_below table schedule) (omega (arith, below, length-dispatch_order table schedule))
 
-  -- the place of a job in the order
-  record Placed (i : ℕ) : Type 0 where
-    pub at : ℕ
-    pub below : at < length table.jobs
-    pub is : nth at ≡ i
-
-  placed : (i : ℕ) → i < length table.jobs → Placed i
-  placed i is_job = by (dispatch_contains table schedule i is_job)
-    where
-      by : Contains (dispatch_order table schedule) i → Placed i
-      by (k, below, is) = record {
-        at = k;
-        below = omega (arith, below, length-dispatch_order table schedule);
-        is = get_or_default (dispatch_order table schedule) k 0 i below ∙ is;
-      }
-
   abbrev EndsBy : ℕ → Type 0
   EndsBy k = k < length table.jobs → finish_of scenario schedule (nth k) ≤ end_limit (k + 1)
 
   module _ (k : ℕ) (before : (p : ℕ) → p < k → EndsBy p) (below : k < length table.jobs) where
     -- what is dispatched before the next job finishes by this limit
     ended : (i : ℕ) → i < length table.jobs → starts_earlier table schedule i (nth k) ≡ true → finish_of scenario schedule i ≤ end_limit k
-    ended i is_job earlier = by (placed i is_job) (cases_order (placed i is_job).at k)
+    ended i is_job earlier = by (placed table schedule i is_job) (cases_order (placed table schedule i is_job).at k)
       where
-        by : (p : Placed i) → (p.at ≡ k) ⊎ ((p.at < k) ⊎ (k < p.at)) → finish_of scenario schedule i ≤ end_limit k
+        by : (p : Placed table schedule i) → (p.at ≡ k) ⊎ ((p.at < k) ⊎ (k < p.at)) → finish_of scenario schedule i ≤ end_limit k
         by p (inl same) =
             let one : nth k ≡ i = sym (ap nth same) ∙ p.is in
             absurd (true≢false (sym earlier ∙ earlier_one_way table schedule (nth k) i (rw one (rw one at earlier))))
@@ -102,7 +85,7 @@ module _ (table : Table) (m : ℕ) (scenario : List (ℕ × ℕ)) (schedule : Li
   -- each job has finished by then
   pub run_ends : (j : ℕ) → j < length table.jobs → finish_of scenario schedule j ≤ end_limit MOST_JOBS
   run_ends j is_job =
-      let p = placed j is_job in
+      let p = placed table schedule j is_job in
       omega (arith, ap (finish_of scenario schedule) p.is, ends_by p.at p.below, end_limit-grows (p.at + 1) MOST_JOBS (omega (arith, p.below, is_table.few_jobs)))
 
 pub runs_end : RunsEnd

@@ -2,8 +2,9 @@ pub mod StartsAgree
 pub mod Sorted
 pub mod OrderLaws
 pub mod LegalTest
-mod Rows
+pub mod Rows
 pub mod OneOrder
 pub mod OneRun
 pub mod OrderMembers
 pub mod Ends
+mod SortedDispatches

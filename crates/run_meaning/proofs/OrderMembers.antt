@@ -1,17 +1,19 @@
 -- The dispatch order has the numbers of all jobs, and no others.
-use Rattle.std.proofs.Common.{◌≡◌, ℕ, ◌<◌, Bool, true, false, cond, List, [], ◌∷◌, length, map, refl, arith}
+use Rattle.std.proofs.Common.{◌≡◌, ℕ, ◌<◌, Bool, true, false, cond, List, [], ◌∷◌, length, map, get_or, refl, ◌∙◌, arith}
 use Rattle.std.specs.Prelude.{Contains}
 use Rattle.std.specs.List.{AllByRecursion}
 use Rattle.std.specs.List.Sorted.{IsPermutation, IsStrictlySortedBy}
 use Rattle.std.specs.declared.cmp.Ordering.{Ordering}
 use Rattle.std.specs.declared.cmp.Ordering.TheVariants.{Less, Equal, Greater}
 use Rattle.std.specs.Ordering.{is_lt}
+use Rattle.std.proofs.lemmas.List.{get_or_default}
 use Rattle.std.proofs.lemmas.List.FromFn.{length-range_with_len, get_or-range_with_len}
 use Rattle.std.proofs.lemmas.List.Sorted.{Contains-permutation, IsPermutation-refl, IsPermutation-cons, IsPermutation-middle, IsPermutation-trans}
 use Rattle.job_model.specs.Numbers.{numbers_below}
 use Rattle.job_model.specs.Table.{Table, IsTable}
 use Rattle.run_meaning.specs.declared.Place.{Place}
 use Rattle.run_meaning.specs.Order.{dispatch_cmp, dispatch_order, insert_by, sorted_by, starts_earlier}
+use Rattle.run_meaning.proofs.OrderLaws.{length-dispatch_order}
 use Rattle.run_meaning.proofs.Sorted.{InOrder, in_order, recursion_weaker}
 
 module _ {X : Type 0} (lt : X → X → Bool) where
@@ -68,3 +70,19 @@ module _ (table : Table) (schedule : List Place) where
 
   pub dispatch_strict : IsTable table → IsStrictlySortedBy (dispatch_cmp table schedule) (dispatch_order table schedule)
   dispatch_strict is_table = strictly (dispatch_cmp table schedule) (dispatch_order table schedule) (in_order table schedule is_table)
+
+  -- the place of a job in the order
+  pub record Placed (i : ℕ) : Type 0 where
+    pub at : ℕ
+    pub below : at < length table.jobs
+    pub is : get_or (dispatch_order table schedule) at 0 ≡ i
+
+  pub placed : (i : ℕ) → i < length table.jobs → Placed i
+  placed i is_job = by (dispatch_contains i is_job)
+    where
+      by : Contains (dispatch_order table schedule) i → Placed i
+      by (k, below, is) = record {
+        at = k;
+        below = omega (arith, below, length-dispatch_order table schedule);
+        is = get_or_default (dispatch_order table schedule) k 0 i below ∙ is;
+      }

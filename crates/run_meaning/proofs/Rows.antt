@@ -6,19 +6,19 @@ use Rattle.run_meaning.specs.Legal.{Legal}
 use Rattle.run_meaning.specs.Order.{dispatch_order}
 use Rattle.run_meaning.proofs.LegalTest.{legal_test, Legal-from_test}
 
-abbrev place : ℕ → ℕ → Place
+abbrev pub place : ℕ → ℕ → Place
 place start core = record { start = start; core = core }
 
 abbrev scenario_a : List (ℕ × ℕ)
 scenario_a = (1, 2) ∷ (0, 3) ∷ []
 
-a_legal : Legal table_a 1 ((1, 2) ∷ (0, 3) ∷ []) (place 3 0 ∷ place 0 0 ∷ [])
+pub a_legal : Legal table_a 1 ((1, 2) ∷ (0, 3) ∷ []) (place 3 0 ∷ place 0 0 ∷ [])
 a_legal = Legal-from_test _ _ _ _ refl
 
 a_order : dispatch_order table_a (place 3 0 ∷ place 0 0 ∷ []) ≡ 1 ∷ 0 ∷ []
 a_order = refl
 
-b_legal : Legal table_b 2 ((0, 4) ∷ (0, 1) ∷ (0, 2) ∷ []) (place 0 0 ∷ place 0 1 ∷ place 4 0 ∷ [])
+pub b_legal : Legal table_b 2 ((0, 4) ∷ (0, 1) ∷ (0, 2) ∷ []) (place 0 0 ∷ place 0 1 ∷ place 4 0 ∷ [])
 b_legal = Legal-from_test _ _ _ _ refl
 
 -- the other of the idle cores will do

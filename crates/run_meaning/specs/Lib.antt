@@ -1,4 +1,5 @@
 pub mod Ready
 pub mod Order
+pub mod Dispatches
 pub mod Legal
 pub mod Laws

@@ -3,6 +3,11 @@
 
 ghost use Rattle.run_meaning.specs.Laws.{OneRun, PredecessorsComeEarlier, RunsEnd, StartsAgree};
 
+mod order;
+#[cfg(test)]
+mod tests;
+
+pub use order::dispatch_order;
 use std::marker::Model;
 
 /// Where and when a job starts.

@@ -1,0 +1,14 @@
+mod CoreCounts
+mod StepCounts
+mod CoreEnds
+mod FinishTimes
+mod CoversList
+mod NextJob
+mod NextInOrder
+mod WindowHolds
+mod WiderCovers
+mod StepCovers
+mod RootCovers
+mod SortedEnds
+mod CoverTest
+mod Rows

@@ -1,0 +1,10 @@
+//! Every legal run is covered by the schedule-abstraction graph, state by state.
+#![tactic(auto)]
+
+mod first_jobs;
+mod laws;
+#[cfg(test)]
+mod tests;
+
+pub use first_jobs::replayed;
+pub use laws::{root_covers, steps_cover, wider_states_cover};
