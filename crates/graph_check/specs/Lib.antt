@@ -1,0 +1,12 @@
+pub mod Entries
+pub mod Certificate
+pub mod Valid
+pub mod Reading
+pub mod Checks
+pub mod Kept
+pub mod Turns
+pub mod Comings
+pub mod Answers
+pub mod Shown
+pub mod Bounds
+pub mod Laws

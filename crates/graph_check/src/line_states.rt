@@ -1,0 +1,90 @@
+//! The states that lines give.
+
+ghost use Rattle.std.specs.Prelude.{◌≡◌, ◌≤◌, length, map, IfNone, IfOk, IfSome, IsTrue};
+ghost use Rattle.std.specs.List.{AllByRecursion};
+ghost use Rattle.sag_time.specs.Sorted.{is_sorted};
+ghost use Rattle.cert_text.specs.Spelling.{FitsEnd, FitsPairs, first_version};
+ghost use Rattle.graph_check.specs.Entries.{state_from};
+ghost use Rattle.graph_check.specs.Comings.{AreEnds, Gives, ends_of_line};
+
+use cert_text::{EndOf, Pair};
+use job_model::JobTable;
+use job_sets::{JobNo, JobSet};
+use sag_step::State;
+use sag_time::{Avail, Span};
+use start_windows::Ends;
+use std::alloc::{AllocError, Global};
+
+// The ends that the line gives, if they can be those of a state.
+fn ends_of_line(alloc: Global, size: u16, list: &[EndOf]) -> Result<Option<Ends>, AllocError>
+    requires { length list.now ≤ 4096 }
+    ensures ends { IfOk result (λ found. IfSome found (λ ends. ends.items ≡ ends_of_line list.now)) }
+    ensures none { IfOk result (λ found. IfNone found (¬ AreEnds size (ends_of_line list.now))) }
+{
+    let mut ends = Ends::new(alloc);
+    for item in list {
+        if item.job >= u64::from(size) {
+            return Ok(None);
+        }
+        let Some(span) = Span::new(item.lo, item.hi) else {
+            return Ok(None);
+        };
+        let is_last = ends.push(JobNo(item.job as u16), span)?;
+        if !is_last {
+            return Ok(None);
+        }
+    }
+    Ok(Some(ends))
+}
+
+// From when on the cores are possibly free, if the numbers are sorted.
+fn low_times(alloc: Global, pairs: &[Pair]) -> Result<Option<Avail>, AllocError>
+    requires { length pairs.now ≤ 64 }
+    ensures times { IfOk result (λ found. IfSome found (λ low. low ≡ map (λ p. p.lo) pairs.now)) }
+    ensures none { IfOk result (λ found. IfNone found
+        (¬ IsTrue (is_sorted (map (λ p. p.lo) pairs.now)))) }
+{
+    let times = pairs.iter().map(|pair| pair.lo).collect(alloc)?;
+    Ok(Avail::from_list(times))
+}
+
+// From when on the cores are certainly free, if the numbers are sorted.
+fn high_times(alloc: Global, pairs: &[Pair]) -> Result<Option<Avail>, AllocError>
+    requires { length pairs.now ≤ 64 }
+    ensures times { IfOk result (λ found. IfSome found (λ high. high ≡ map (λ p. p.hi) pairs.now)) }
+    ensures none { IfOk result (λ found. IfNone found
+        (¬ IsTrue (is_sorted (map (λ p. p.hi) pairs.now)))) }
+{
+    let times = pairs.iter().map(|pair| pair.hi).collect(alloc)?;
+    Ok(Avail::from_list(times))
+}
+
+/// The state of those jobs that a line gives, if it has the shape of one.
+pub(crate) fn state_of_line(
+    alloc: Global,
+    table: &JobTable,
+    cores: u16,
+    set: JobSet,
+    pairs: &[Pair],
+    ends: &[EndOf],
+) -> Result<Option<State>, AllocError>
+    requires cores { 1 ≤ cores }
+    requires size { set.size ≡ length table.now.jobs }
+    requires pairs { FitsPairs first_version pairs.now }
+    requires few_ends { length ends.now ≤ 4096 }
+    requires ends { AllByRecursion FitsEnd ends.now }
+    ensures { IfOk result (Gives table.now cores
+        (state_from table.now set.members pairs.now ends.now)) }
+{
+    let _members = set.count();
+    let Some(low) = low_times(alloc, pairs)? else {
+        return Ok(None);
+    };
+    let Some(high) = high_times(alloc, pairs)? else {
+        return Ok(None);
+    };
+    let Some(ends) = ends_of_line(alloc, table.len(), ends)? else {
+        return Ok(None);
+    };
+    Ok(State::from_parts(table, cores, set, low, high, ends))
+}
