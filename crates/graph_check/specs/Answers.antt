@@ -48,6 +48,7 @@ abbrev pub EndsAt : Reading → Due → Result Yes CheckAnswer → Type 0
 EndsAt r due.Nothing result = SaysYes r.jobs result
 EndsAt r other result = result ≡ Err (answer.No K2 (r.lines + 1))
 
+-- what the end of the lines gives, of whatever is kept
 abbrev pub Ends : Option (Result Reading Failure) → Result Yes CheckAnswer → Type 0
 Ends (Some (Ok r)) result = EndsAt r r.due result
 Ends (Some (Err failure)) result = result ≡ Err (answer.No failure.clause failure.line)

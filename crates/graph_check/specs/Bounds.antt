@@ -10,11 +10,13 @@ use Rattle.run_meaning.specs.Ready.{finish_of}
 use Rattle.run_meaning.specs.Legal.{Legal}
 use Rattle.graph_check.specs.Entries.{JobEntry, is_ok_mark}
 
+-- in each legal run of every scenario the job finishes from lo to hi
 abbrev pub FinishesWithin : Table → ℕ → ℕ → ℕ → ℕ → Type 0
 FinishesWithin table m j lo hi =
     (scenario : List (ℕ × ℕ)) (schedule : List Place) → Fits table scenario → Legal table m scenario schedule →
     (lo ≤ finish_of scenario schedule j) × (finish_of scenario schedule j ≤ hi)
 
+-- in each legal run of every scenario the job finishes by its deadline
 abbrev pub MeetsDeadline : Table → ℕ → ℕ → Type 0
 MeetsDeadline table m j =
     (scenario : List (ℕ × ℕ)) (schedule : List Place) → Fits table scenario → Legal table m scenario schedule →

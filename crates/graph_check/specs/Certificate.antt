@@ -45,9 +45,11 @@ pub record Certificate : Type 0 where
 
 -- ---- its lines, in order
 
+-- the line of a state
 abbrev pub state_line : StateEntry → CertLine
 state_line s = line.State s.parent s.job s.pairs s.ends
 
+-- the line of an edge
 abbrev pub edge_line : EdgeEntry → CertLine
 edge_line e = line.Edge e.from e.job e.window.est e.window.lst e.to
 
@@ -59,6 +61,7 @@ block_lines b = line.Level b.0 (length b.1.states) ∷ map state_line b.1.states
 abbrev pub job_line : ℕ × JobEntry → CertLine
 job_line s = line.Job s.0 s.1.span.lo s.1.span.hi s.1.mark
 
+-- the head, level 0 with its state, the levels above it, the jobs, the verdict, and the end
 abbrev pub lines_of : Certificate → List CertLine
 lines_of c =
     line.Head c.jobs c.cores ∷ line.Level 0 c.root_count ∷ line.Root c.root
@@ -66,5 +69,6 @@ lines_of c =
     ++ map job_line (enumerate_from 0 c.spans)
     ++ line.Verdict c.verdict ∷ line.End ∷ []
 
+-- the edges of all levels
 abbrev pub all_edges : Certificate → List EdgeEntry
 all_edges c = flat_map (λ b. b.edges) c.blocks

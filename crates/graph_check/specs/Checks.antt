@@ -26,6 +26,7 @@ use Rattle.graph_check.specs.declared.reading.Due.TheVariants as due
 use Rattle.graph_check.specs.Entries.{state_from, root_from, is_ok_mark}
 use Rattle.graph_check.specs.Reading.{Reading, level_due}
 
+-- clauses, each with the outcome of its test
 abbrev pub Checks : Type 0
 Checks = List (Clause × Bool)
 
@@ -56,6 +57,7 @@ edge_checks states (Some o) from job est lst to =
 abbrev pub covers_hull : List (Option Interval) → ℕ → Interval → Bool
 covers_hull hulls number span = option_map_or (λ o. option_map_or (covers span) o true) (slice_get hulls number) true
 
+-- of a job line: its number is the one due, its interval covers those of its edges, its mark is right
 abbrev pub job_checks : Table → Reading → ℕ → Interval → Mark → Checks
 job_checks table r number span mark =
     (K2, number == length r.jobs)
@@ -68,6 +70,8 @@ is_behind_block r due.Level = nat_lt 0 r.level
 is_behind_block r due.Job = nat_lt 0 r.level && (length r.jobs == 0)
 is_behind_block r _ = false
 
+-- The checks of a line where this kind of line is due. A line of another kind breaks K6 while an edge is due; an edge where
+-- none is left breaks K6 right behind its level; any other breaks K2.
 abbrev pub due_checks : Table → ℕ → Reading → Due → CertLine → Checks
 due_checks table m r due.Head (line.Head jobs cores) = (K1, (jobs == length table.jobs) && (cores == m)) ∷ []
 due_checks table m r due.Level (line.Level number count) = (K2, number == level_due r) ∷ (K3, nat_lt 0 number || (count == 1)) ∷ []

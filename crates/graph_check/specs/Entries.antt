@@ -30,6 +30,7 @@ pub record JobEntry : Type 0 where
   pub span : Interval
   pub mark : Mark
 
+-- the mark is ok
 abbrev pub is_ok_mark : Mark → Bool
 is_ok_mark mark.Ok = true
 is_ok_mark mark.Miss = false

@@ -22,6 +22,7 @@ use Rattle.graph_check.specs.Checks.{first_broken, child, due_checks}
 abbrev pub hulls_with : List (Option Interval) → ℕ → Interval → List (Option Interval)
 hulls_with hulls job finish = slice_set hulls job (Some (option_map_or (λ o. option_map_or (hull finish) o finish) (slice_get hulls job) finish))
 
+-- what is kept after a line that passes its checks, but for the number of lines
 abbrev pub after_line : Table → Reading → CertLine → Reading
 after_line table r (line.Head jobs cores) = record r { due = due.Level }
 after_line table r (line.Level zero count) = record r { due = due.Root; count = count }
@@ -57,13 +58,16 @@ step table m (Ok r) l =
     option_map_or (λ clause. Err (record { clause = clause; line = r.lines + 1 })) (first_broken (due_checks table m r r.due l))
     (Ok (record (after_line table r l) { lines = r.lines + 1 }))
 
+-- what is kept of these lines, taken one by one
 abbrev pub kept : Table → ℕ → List CertLine → Result Reading Failure
 kept table m lines = fold (step table m) (Ok (start table)) lines
 
+-- the failure, where one is kept
 abbrev pub failure_of : Result Reading Failure → Option Failure
 failure_of (Ok r) = None
 failure_of (Err failure) = Some failure
 
+-- the first failure of the lines, if there is one
 abbrev pub first_failure : Table → ℕ → List CertLine → Option Failure
 first_failure table m lines = failure_of (kept table m lines)
 

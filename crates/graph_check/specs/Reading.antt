@@ -12,6 +12,7 @@ use Rattle.graph_check.specs.declared.reading.Due.{Due}
 use Rattle.graph_check.specs.declared.reading.Due.TheVariants as due
 use Rattle.graph_check.specs.Entries.{JobEntry}
 
+-- what is kept while no clause is broken
 pub record Reading : Type 0 where
   -- how many lines were read, and the kind of line that is due
   pub lines : ℕ

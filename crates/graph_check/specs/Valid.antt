@@ -32,6 +32,7 @@ parent_set before parent = option_map_or (λ p. p.set.members) (slice_get before
 abbrev pub entry_state : Table → List SystemState → StateEntry → SystemState
 entry_state table before s = state_from table (with_number s.job (parent_set before s.parent)) s.pairs s.ends
 
+-- the states of a level, each with its set
 abbrev pub block_states : Table → List SystemState → Block → List SystemState
 block_states table before block = map (entry_state table before) block.states
 
@@ -43,9 +44,11 @@ LeadsToWider states edge offer = IsSomeAnd (slice_get states edge.to) (λ s. IsT
 abbrev pub edge_choice : EdgeEntry → ℕ × ℕ
 edge_choice e = (e.from, e.job)
 
+-- the same of an offer
 abbrev pub offer_choice : Offer → ℕ × ℕ
 offer_choice o = (o.from, o.job)
 
+-- The level keeps clauses K4 to K8 over the states of the level before it.
 pub record IsValidBlock (table : Table) (m : ℕ) (before : List SystemState) (block : Block) : Type 0 where
   -- K4
   pub candidates : AllByRecursion (NamesCandidate table before) block.states
@@ -75,6 +78,7 @@ IsMarkedRight table s = IsTrue (is_ok_mark s.1.mark) ↔ (s.1.span.hi ≤ (job_a
 
 -- ---- the clauses together
 
+-- The certificate keeps clauses K1 to K11 for the table on m cores.
 pub record KeepsClauses (table : Table) (m : ℕ) (c : Certificate) : Type 0 where
   -- K1
   pub jobs : c.jobs ≡ length table.jobs
@@ -96,6 +100,7 @@ pub record KeepsClauses (table : Table) (m : ℕ) (c : Certificate) : Type 0 whe
   -- K11
   pub verdict : is_ok_mark c.verdict ≡ list_all (λ s. is_ok_mark s.mark) c.spans
 
+-- The lines are those of a certificate that keeps the clauses.
 pub record Valid (table : Table) (m : ℕ) (lines : List CertLine) : Type 0 where
   pub certificate : Certificate
   pub in_order : lines ≡ lines_of certificate
