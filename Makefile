@@ -1,23 +1,32 @@
-# demo: build the program and run the first example. test: the gate, then the conformance calls.
-# install: put the program under PREFIX/bin. bench: time the program on generated workloads.
+# make: prove and build the program. demo: a build without proofs, and the first example. test: the gate, the conformance calls
+# and the check of the documents. install: put the program under PREFIX/bin. bench, faults: measures.
 
 PREFIX ?= /usr/local
 PROGRAM = crates/sag/out/sag
 EXAMPLE = examples/blocking
 
-.PHONY: demo test gate conformance install bench program
+.PHONY: program demo test gate conformance documents install bench faults
 
-demo: program
-	$(PROGRAM) replay $(EXAMPLE)/jobs.csv $(EXAMPLE)/scenario.csv
+# What is proved already is not proved again.
+program:
+	@python3 tools/prove.py crates/sag
 
-test: gate conformance
+# The program compiled with checks at run time, in place of proofs.
+demo:
+	@cd crates/sag && rt try --data jobs.csv=../../$(EXAMPLE)/jobs.csv --data scenario.csv=../../$(EXAMPLE)/scenario.csv \
+	  -- replay jobs.csv scenario.csv 2>/dev/null
+	@echo "This build is not proved. 'make' proves and builds the program, 'make test' all of it."
+
+test: gate documents conformance
 
 gate:
 	rt ci
 
-conformance:
-	@if ! command -v python3 >/dev/null; then echo "conformance: skipped, python3 is missing"; \
-	else $(MAKE) --no-print-directory program && python3 conformance/run.py $(PROGRAM); fi
+documents:
+	@python3 tools/documents.py
+
+conformance: program
+	@python3 conformance/run.py $(PROGRAM)
 
 install: program
 	install -d $(DESTDIR)$(PREFIX)/bin
@@ -27,7 +36,5 @@ bench: program
 	python3 bench/replay.py $(PROGRAM)
 	@cd crates/cert_speed && rt run >/dev/null 2>&1 && bash -c 'time out/cert_speed'
 
-# Proves and builds the program. What is proved already is not proved again.
-program:
-	@log=$$(mktemp); (cd crates/sag && rt run -- replay data/jobs.csv data/scenario.csv) >$$log 2>&1 \
-	  || { cat $$log; rm -f $$log; exit 1; }; rm -f $$log
+faults:
+	python3 bench/alloc_faults.py

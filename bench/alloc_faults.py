@@ -1,77 +1,74 @@
 #!/usr/bin/env python3
-"""Lets each allocation of the engine's tests fail in turn, and counts how the tests end.
+"""Lets the first allocation of a call fail, then the second, and so on until none fails.
 
-usage: alloc_faults.py [--first N] [--last N] [--test NAME]
+usage: alloc_faults.py [--first N] [--only FOLDER]
 
-For N from the first to the last, `rt try --test --fail-alloc N` builds the tests of crates/sag_engine without a proof, and
-runs each with its Nth allocation failing. One N takes a minute or more. It stops early once the named test passes, which
-has fewer allocations than N then. Without a name it is the test that runs the worked schedule and the empty job file.
-
-A test ends in one of these ways:
-    memory   the run under test told of want of memory, where the test awaits another status
-    set-up   the test's own allocation failed, before or between the runs
-    passed   the failure never came, or changed nothing
-    other    anything else, such as a wrong answer: its text is printed, and the status of this script is 1
+The calls are those of examples/README.md. `rt try --fail-alloc N` builds the program without a proof and runs it with its Nth
+allocation failing, that one alone. The call has to end with status 7, with `no memory` on the error stream, and with nothing or
+the first bytes of its output. Where it ends as without a failure, there are fewer allocations than N, and the call is done. One N
+takes half a minute or more. The status of this script is 1 where a call ended otherwise, such as with a wrong answer.
 
 RT names another command for rt.
 """
 
 import argparse
-import collections
 import os
 import pathlib
 import re
 import subprocess
 import sys
 
-CRATE = pathlib.Path(__file__).resolve().parent.parent / "crates" / "sag_engine"
+TOP = pathlib.Path(__file__).resolve().parent.parent
 RT = os.environ.get("RT", "rt")
-BEGIN = re.compile(r"^test (?:\w+::)*(\w+) \.\.\. (ok|FAILED)\n", re.MULTILINE)
-WANT_OF_MEMORY = re.compile(r"^ +left: Memory\n +right: \w+\n", re.MULTILINE)
+ENDED = re.compile(r"^checked: ended status=(\d+)$", re.MULTILINE)
 
 
-def run(number):
-    """The tests with that allocation failing: by name whether it passed, and what it said."""
-    done = subprocess.run([RT, "try", "--test", "--fail-alloc", str(number)], cwd=CRATE, stdout=subprocess.PIPE,
-                          stderr=subprocess.STDOUT, text=True, errors="replace")
-    parts = BEGIN.split(done.stdout.partition("test result:")[0])[1:]
-    if not parts:
-        sys.exit(f"alloc_faults: no test ran\n{done.stdout}")
-    return {name: (how, said) for name, how, said in zip(parts[::3], parts[1::3], parts[2::3])}
+def stories():
+    """The folder, the words and the expected output of each example."""
+    text = (TOP / "examples" / "README.md").read_text(encoding="utf-8").split("## Stories\n", 1)[1]
+    for line in text.splitlines():
+        cells = [re.sub(r"^\[?`?|`?(\]\(.*\))?$", "", cell.strip()) for cell in line.strip("|").split(" | ")]
+        if line.startswith("| [") and len(cells) >= 3:
+            yield cells[0], cells[1].split()[1:], (TOP / "examples" / cells[0] / cells[2]).read_bytes()
 
 
-def ending(how, said):
-    """How a test ended, in a word."""
-    if how == "ok":
-        return "passed"
-    if WANT_OF_MEMORY.search(said):
-        return "memory"
-    return "set-up" if said.lstrip().startswith(("error: AllocError", "error: AllocFailed")) else "other"
+def run(folder, words, number):
+    """The status, the output and the error stream of the call with that allocation failing."""
+    files = [part for word in words if word.endswith(".csv")
+             for part in ("--data", f"{word}={TOP / 'examples' / folder / word}")]
+    done = subprocess.run([RT, "try", "--fail-alloc", str(number), *files, "--", *words], cwd=TOP / "crates" / "sag",
+                          capture_output=True, check=False)
+    said = done.stderr.decode("utf-8", errors="replace")
+    ended = ENDED.search(said)
+    if ended is None:
+        sys.exit(f"alloc_faults: the program did not end\n{said}")
+    return int(ended.group(1)), done.stdout, said
 
 
-def main(first, last, watched):
-    counts = collections.defaultdict(collections.Counter)
-    for number in range(first, last + 1):
-        tests = run(number)
-        if watched not in tests:
-            sys.exit(f"alloc_faults: there is no test {watched}")
-        for name, (how, said) in tests.items():
-            end = ending(how, said)
-            counts[name][end] += 1
-            if end == "other":
-                print(f"allocation {number}: {name} ended otherwise\n{said}", flush=True)
-        print(f"allocation {number}: {watched} {ending(*tests[watched])}", flush=True)
-        if tests[watched][0] == "ok":
-            break
-    for name, ends in sorted(counts.items()):
-        print(f"{name}: " + ", ".join(f"{end} {count}" for end, count in sorted(ends.items())))
-    return 1 if any(ends["other"] for ends in counts.values()) else 0
+def check(folder, words, whole, first):
+    """Runs one call until no allocation fails; gives how many ended otherwise than they should."""
+    others = 0
+    number = first
+    while True:
+        status, out, said = run(folder, words, number)
+        if (status, out) == (0, whole):
+            print(f"{folder}: {number - first} allocations failed in turn, from number {first} on", flush=True)
+            return others
+        if not (status == 7 and whole.startswith(out) and "no memory" in said.splitlines()):
+            others += 1
+            print(f"{folder}: allocation {number}: status {status}\n{out.decode('utf-8', errors='replace')}{said}", flush=True)
+        number += 1
+
+
+def main(first, only):
+    others = sum(check(folder, words, whole, first) for folder, words, whole in stories() if only in (None, folder))
+    print(f"alloc_faults: {others} ended otherwise")
+    return 1 if others else 0
 
 
 if __name__ == "__main__":
-    words = argparse.ArgumentParser(description=__doc__.splitlines()[0])
-    words.add_argument("--first", type=int, default=1)
-    words.add_argument("--last", type=int, default=60)
-    words.add_argument("--test", default="prints_schedules")
-    given = words.parse_args()
-    sys.exit(main(given.first, given.last, given.test))
+    given = argparse.ArgumentParser(description=__doc__.splitlines()[0])
+    given.add_argument("--first", type=int, default=1)
+    given.add_argument("--only")
+    words_given = given.parse_args()
+    sys.exit(main(words_given.first, words_given.only))

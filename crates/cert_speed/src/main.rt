@@ -5,10 +5,10 @@ use cert_text::{CertReader, FeedFault};
 use std::alloc::{AllocError, Global};
 use std::process::ExitCode;
 
-const HEAD: &[u8] = b"sagcert 1 4096 4\n";
+const HEAD: &[u8] = b"sagcert 2 16384 4\n";
 
 // A state and two edges, as they stand between the head and the end.
-const LINES: &[u8] = b"state 12 345 1000:2000 1100:2100 1200:2200 1300:2300 | 17:900:2300\n\
+const LINES: &[u8] = b"state 12 345 1000:2000 1100:2100 1200:2200 1300:2300 | 17:900:2300 | 17\n\
     edge 12 345 1000 1100 17\nedge 12 346 1000 1250 18\n";
 
 const BYTES: u64 = 100_000_000;

@@ -3,19 +3,21 @@ use Rattle.std.proofs.Common.{◌≡◌, ℕ, zero, suc, ◌+◌, ◌-◌, ◌*�
 use Rattle.std.proofs.lemmas.Bool.{eqb-true, eqb-false, eq-eqb, ne_eqb}
 use Rattle.cert_text.specs.declared.line.Mark.{Mark}
 use Rattle.cert_text.specs.declared.line.Mark.TheVariants as mark
-use Rattle.cert_text.specs.declared.spot.Grammar.{Grammar}
+use Rattle.cert_text.specs.declared.grammar.Grammar.{Grammar}
 use Rattle.cert_text.specs.declared.spot.Standing.{Standing}
 use Rattle.cert_text.specs.declared.spot.Standing.TheVariants as standing
 use Rattle.cert_text.specs.declared.spot.Draft.{Draft}
 use Rattle.cert_text.specs.declared.spot.Word.{Word}
 use Rattle.cert_text.specs.declared.spot.Word.TheVariants as word
-use Rattle.cert_text.specs.declared.spot.Place.{Place}
-use Rattle.cert_text.specs.declared.spot.Place.TheVariants as place
+use Rattle.cert_text.specs.declared.spot.NumberAt.{NumberAt}
+use Rattle.cert_text.specs.declared.spot.NumberAt.TheVariants as place
 use Rattle.cert_text.specs.declared.spot.Marked.{Marked}
 use Rattle.cert_text.specs.declared.spot.Spot.{Spot}
 use Rattle.cert_text.specs.declared.spot.Spot.TheVariants as spot
+use Rattle.cert_text.specs.Grammar.{most_number}
 use Rattle.cert_text.specs.Spelling.{mark_text}
-use Rattle.cert_text.specs.Machine.{Step, On, Whole, Wrong, Opens, is_digit, most_number, word_text, after_word, in_word, begin, digit, first_digit, with_pair, with_end, after_root, after_ends, after_number, marked_line, step}
+use Rattle.cert_text.specs.Machine.{Step, On, Whole, Wrong, Opens, is_digit, word_text, after_word, in_word, begin}
+use Rattle.cert_text.specs.Machine.{digit, first_digit, add_pair, add_end, add_last, after_root, after_ends, after_last, after_number, marked_line, byte_step}
 use Rattle.cert_text.specs.Kept.{KeptSpot}
 use Rattle.cert_text.proofs.Digits.{digit-true}
 
@@ -44,7 +46,7 @@ wanted b c x p = at_byte b c x Wrong p tt
 digit_lf : (b : ℕ) → is_digit b ≡ true → (b == 10) ≡ false
 digit_lf b h = let r = digit-true b h in ne_eqb b 10 (λ e. omega (arith, e, r.0))
 
-first_lf : (d : Draft) (p : Place) (b : ℕ) → ByLf b (first_digit d p b)
+first_lf : (d : Draft) (p : NumberAt) (b : ℕ) → ByLf b (first_digit d p b)
 first_lf d p b = where_so b (is_digit b) (On d (spot.Digits p (b - 48))) (digit_lf b)
 
 -- ---- words and marks
@@ -102,26 +104,32 @@ mark_lf d to mark.Miss (suc (suc (suc (suc (suc n))))) lt = absurd (omega (arith
 
 ends_lf : (g : Grammar) (d : Draft) (parent job b : ℕ) → ByLf b (after_ends g d parent job b)
 ends_lf g d parent job b =
-    at_byte b 32 _ _ (where_so 32 (nat_lt (length d.ends) g.most_items) (On d (spot.Due (place.EndJob parent job))) (λ e. refl)) (wanted b 10 _ refl)
+    by_test b g.has_last _ _ (λ h. wanted b 32 _ refl)
+    (at_byte b 32 _ _ (where_so 32 (nat_lt (length d.ends) g.most_items) (On d (spot.Due (place.EndJob parent job))) (λ e. refl)) (wanted b 10 _ refl))
+
+last_lf : (g : Grammar) (d : Draft) (parent job b : ℕ) → ByLf b (after_last g d parent job b)
+last_lf g d parent job b =
+    at_byte b 32 _ _ (where_so 32 (nat_lt (length d.last) g.most_items) (On d (spot.Due (place.LastJob parent job))) (λ e. refl)) (wanted b 10 _ refl)
 
 root_lf : (g : Grammar) (d : Draft) (b : ℕ) → ByLf b (after_root g d b)
 root_lf g d b =
     at_byte b 32 _ _ (where_so 32 (nat_lt (length d.pairs) g.most_pairs) (On d (spot.Due place.RootLo)) (λ e. refl)) (wanted b 10 _ refl)
 
-number_lf : (g : Grammar) (d : Draft) (p : Place) (v b : ℕ) → ByLf b (after_number g d p v b)
+number_lf : (g : Grammar) (d : Draft) (p : NumberAt) (v b : ℕ) → ByLf b (after_number g d p v b)
 number_lf g d place.HeadJobs v b = wanted b 32 _ refl
 number_lf g d (place.HeadCores jobs) v b = wanted b 10 _ refl
 number_lf g d place.LevelNumber v b = wanted b 32 _ refl
 number_lf g d (place.LevelCount number) v b = wanted b 10 _ refl
 number_lf g d place.RootLo v b = wanted b 58 _ refl
-number_lf g d (place.RootHi lo) v b = root_lf g (with_pair d (record { lo = lo; hi = v })) b
+number_lf g d (place.RootHi lo) v b = root_lf g (add_pair d (record { lo = lo; hi = v })) b
 number_lf g d place.StateParent v b = wanted b 32 _ refl
 number_lf g d (place.StateJob parent) v b = wanted b 32 _ refl
 number_lf g d (place.PairLo parent job) v b = wanted b 58 _ refl
 number_lf g d (place.PairHi parent job lo) v b = wanted b 32 _ refl
 number_lf g d (place.EndJob parent job) v b = wanted b 58 _ refl
 number_lf g d (place.EndLo parent job of) v b = wanted b 58 _ refl
-number_lf g d (place.EndHi parent job of lo) v b = ends_lf g (with_end d (record { job = of; lo = lo; hi = v })) parent job b
+number_lf g d (place.EndHi parent job of lo) v b = ends_lf g (add_end d (record { job = of; lo = lo; hi = v })) parent job b
+number_lf g d (place.LastJob parent job) v b = last_lf g (add_last d v) parent job b
 number_lf g d place.EdgeFrom v b = wanted b 32 _ refl
 number_lf g d (place.EdgeJob from) v b = wanted b 32 _ refl
 number_lf g d (place.EdgeEst from job) v b = wanted b 32 _ refl
@@ -131,7 +139,7 @@ number_lf g d place.JobNumber v b = wanted b 32 _ refl
 number_lf g d (place.JobLo number) v b = wanted b 32 _ refl
 number_lf g d (place.JobHi number lo) v b = wanted b 32 _ refl
 
-digits_lf : (d : Draft) (p : Place) (v b : ℕ) → is_digit b ≡ true → ByLf b (digit d p v (b - 48))
+digits_lf : (d : Draft) (p : NumberAt) (v b : ℕ) → is_digit b ≡ true → ByLf b (digit d p v (b - 48))
 digits_lf d p v b h = by_test b (v == 0) Wrong _ (λ e. tt) (where_so b (nat_le (v * 10 + (b - 48)) most_number) _ (λ e. digit_lf b h))
 
 begin_lf : (s : Standing) (b : ℕ) → ByLf b (begin s b)
@@ -140,7 +148,7 @@ begin_lf standing.Inside b = at_byte b 101 _ _ refl (at_byte b 115 _ _ refl (at_
 begin_lf standing.Over b = tt
 
 -- A byte ends a line exactly where it is an LF.
-pub step_lf : (g : Grammar) (v : (g.version == 10) ≡ false) (s : Standing) (d : Draft) (p : Spot) (b : ℕ) → KeptSpot g d p → ByLf b (step g s d p b)
+pub step_lf : (g : Grammar) (v : (g.version == 10) ≡ false) (s : Standing) (d : Draft) (p : Spot) (b : ℕ) → KeptSpot g d p → ByLf b (byte_step g s d p b)
 step_lf g v s d spot.Start b k = begin_lf s b
 step_lf g v s d spot.Forked b k = at_byte b 100 _ _ refl (wanted b 110 _ refl)
 step_lf g v s d (spot.InWord w at) b k = wanted b (get_or (word_text g w) at 0) _ (word_lf g v d w at k.1)
@@ -148,6 +156,8 @@ step_lf g v s d (spot.Due p) b k = first_lf d p b
 step_lf g v s d (spot.Digits p value) b k = by_test b (is_digit b) (digit d p value (b - 48)) (after_number g d p value b) (digits_lf d p value b) (number_lf g d p value b)
 step_lf g v s d (spot.PairGap parent job) b k = at_byte b 124 _ _ refl (where_so b (nat_lt (length d.pairs) g.most_pairs) _ (λ e. first_lf d (place.PairLo parent job) b))
 step_lf g v s d (spot.Barred parent job) b k = ends_lf g d parent job b
+step_lf g v s d (spot.EndGap parent job) b k = at_byte b 124 _ _ refl (where_so b (nat_lt (length d.ends) g.most_items) _ (λ e. first_lf d (place.EndJob parent job) b))
+step_lf g v s d (spot.Closed parent job) b k = last_lf g d parent job b
 step_lf g v s d (spot.MarkDue to) b k = at_byte b 111 _ _ refl (wanted b 109 _ refl)
 step_lf g v s d (spot.InMark to m at) b k = wanted b (get_or (mark_text m) at 0) _ (mark_lf d to m at k.1)
 

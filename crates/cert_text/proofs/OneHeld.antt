@@ -2,10 +2,10 @@
 use Rattle.std.proofs.Common.{◌≡◌, ℕ, ◌+◌, Bool, List, [], ◌∷◌, ◌++◌, length, refl, sym, ap, subst, ◌∙◌, append_assoc}
 use Rattle.std.specs.Prelude.{count_by}
 use Rattle.cert_text.specs.declared.fault.FeedFault.TheVariants as fault
-use Rattle.cert_text.specs.declared.spot.Grammar.{Grammar}
+use Rattle.cert_text.specs.declared.grammar.Grammar.{Grammar}
 use Rattle.cert_text.specs.Readable.{Readable, IsPrefix}
-use Rattle.cert_text.specs.Taken.{is_lf, after_last_lf, HoldsOpen, HoldsFault, Held, Open, Fault, Takes}
-use Rattle.cert_text.proofs.Feeds.{bool_is}
+use Rattle.cert_text.specs.Taken.{is_lf, after_last_lf, HoldsOpen, HoldsFault, Held, Open, Fault, HoldsAfter}
+use Rattle.cert_text.proofs.HoldsMore.{bool_is}
 
 shorter : (g : Grammar) (xs ys : List ℕ) → IsPrefix g (xs ++ ys) → IsPrefix g xs
 shorter g xs ys p = record { rest = ys ++ p.rest; lines = p.lines; readable = subst (λ (bs : List ℕ). Readable g bs p.lines) (append_assoc xs ys p.rest) p.readable }
@@ -66,7 +66,7 @@ fault_is g bytes k i n j f h =
     ∙ ap (λ (x : ℕ). Fault (fault.Text n x)) (f.at_byte ∙ ap (λ (l : List ℕ). length (after_last_lf l) + 1) e ∙ sym h.at_byte)
 
 -- After some bytes only one thing is held.
-pub one_held : (g : Grammar) (bytes : List ℕ) (a b : Held) → Takes g bytes a → Takes g bytes b → a ≡ b
+pub one_held : (g : Grammar) (bytes : List ℕ) (a b : Held) → HoldsAfter g bytes a → HoldsAfter g bytes b → a ≡ b
 one_held g bytes (Open k r v) (Open n q w) a b = open_is g bytes r q k n v w a b
 one_held g bytes (Open k r v) (Fault (fault.Text n j)) a b = absurd (open_no_fault g bytes r k n j v a b)
 one_held g bytes (Open k r v) (Fault fault.Memory) a b = absurd b

@@ -3,13 +3,16 @@
 --     SpelledLines                                lines that spell a readable certificate are its lines
 --     OneHeld                                     what is held after bytes is a function of the bytes
 --     TakesPrefixes                               the machine takes what begins a readable certificate
+--     OldLinesFit                                 a line of the old version is one of the new, without last jobs
 use Rattle.std.specs.Prelude.{◌≡◌, ℕ, ◌<◌, ◌++◌, ◌↔◌, List, [], IsSome}
-use Rattle.cert_text.specs.declared.line.CertLine.{CertLine}
-use Rattle.cert_text.specs.declared.spot.Grammar.{Grammar}
 use Rattle.std.specs.List.{flat_map, AllByRecursion}
+use Rattle.cert_text.specs.declared.line.CertLine.{CertLine}
+use Rattle.cert_text.specs.declared.line.CertLine.TheVariants as line
+use Rattle.cert_text.specs.declared.grammar.Grammar.{Grammar}
+use Rattle.cert_text.specs.Grammar.{first_version, second_version}
 use Rattle.cert_text.specs.Spelling.{line_text, FitsLine}
 use Rattle.cert_text.specs.Readable.{Readable, IsPrefix}
-use Rattle.cert_text.specs.Taken.{Held, Takes}
+use Rattle.cert_text.specs.Taken.{Held, HoldsAfter}
 use Rattle.cert_text.specs.Machine.{run}
 
 -- a list of lines has one spelling
@@ -34,9 +37,18 @@ SpelledLines = (g : Grammar) (bytes : List ℕ) (ls ms : List CertLine) → Read
 
 -- after some bytes only one thing is held
 abbrev pub OneHeld : Type 0
-OneHeld = (g : Grammar) (bytes : List ℕ) (a b : Held) → Takes g bytes a → Takes g bytes b → a ≡ b
+OneHeld = (g : Grammar) (bytes : List ℕ) (a b : Held) → HoldsAfter g bytes a → HoldsAfter g bytes b → a ≡ b
 
 -- the machine takes bytes exactly where they are a prefix of a readable certificate
 abbrev pub TakesPrefixes : Type 0
 TakesPrefixes = (g : Grammar) → 0 < g.most_pairs → (bytes : List ℕ)
     → IsPrefix g bytes ↔ IsSome (run g bytes)
+
+-- a state line has no last jobs
+abbrev pub HasNoLast : CertLine → Type 0
+HasNoLast (line.State parent job pairs ends last) = last ≡ []
+HasNoLast other = Unit {0}
+
+-- a line of the old version has its place in the new one, and no last jobs
+abbrev pub OldLinesFit : Type 0
+OldLinesFit = (l : CertLine) → FitsLine first_version l → FitsLine second_version l × HasNoLast l

@@ -1,7 +1,9 @@
+pub mod Grammar
 pub mod Spelling
 pub mod Readable
 pub mod Taken
 pub mod Machine
 pub mod Kept
-pub mod Reading
+pub mod WholeLines
+pub mod Reader
 pub mod Laws

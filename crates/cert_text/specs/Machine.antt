@@ -11,12 +11,12 @@ use Rattle.cert_text.specs.declared.line.Mark.{Mark}
 use Rattle.cert_text.specs.declared.line.Mark.TheVariants as mark
 use Rattle.cert_text.specs.declared.line.CertLine.{CertLine}
 use Rattle.cert_text.specs.declared.line.CertLine.TheVariants as line
-use Rattle.cert_text.specs.declared.spot.Grammar.{Grammar}
+use Rattle.cert_text.specs.declared.grammar.Grammar.{Grammar}
 pub use Rattle.cert_text.specs.declared.spot.Draft.{Draft}
 use Rattle.cert_text.specs.declared.spot.Word.{Word}
 use Rattle.cert_text.specs.declared.spot.Word.TheVariants as word
-use Rattle.cert_text.specs.declared.spot.Place.{Place}
-use Rattle.cert_text.specs.declared.spot.Place.TheVariants as place
+use Rattle.cert_text.specs.declared.spot.NumberAt.{NumberAt}
+use Rattle.cert_text.specs.declared.spot.NumberAt.TheVariants as place
 use Rattle.cert_text.specs.declared.spot.Marked.{Marked}
 use Rattle.cert_text.specs.declared.spot.Marked.TheVariants as marked
 use Rattle.cert_text.specs.declared.spot.Standing.{Standing}
@@ -25,21 +25,18 @@ use Rattle.cert_text.specs.declared.spot.Spot.{Spot}
 use Rattle.cert_text.specs.declared.spot.Spot.TheVariants as spot
 use Rattle.cert_text.specs.declared.machine.StepFault.{StepFault}
 use Rattle.cert_text.specs.declared.machine.StepFault.TheVariants as fault
-use Rattle.cert_text.specs.Spelling.{head_word, mark_text, pair_text, state_pairs, state_ends}
+use Rattle.cert_text.specs.Grammar.{most_number}
+use Rattle.cert_text.specs.Spelling.{head_word, mark_text, pair_item_text, state_pairs, state_ends, state_last}
 
--- no pairs and no ends yet
+-- no pairs, no ends and no last jobs yet
 abbrev pub no_items : Draft
-no_items = record { pairs = []; ends = [] }
+no_items = record { pairs = []; ends = []; last = [] }
 
 -- what a byte leads to
 pub data Step : Type 0 where
   On : (draft : Draft) (spot : Spot) → Step
   Whole : CertLine → Step
   Wrong : Step
-
--- the greatest number, 2^62 - 1
-abbrev pub most_number : ℕ
-most_number = 4611686018427387903
 
 -- 0 to 9
 abbrev pub is_digit : ℕ → Bool
@@ -90,32 +87,45 @@ in_word g d w at b =
     (cond (at + 1 == length (word_text g w)) (after_word d w) (On d (spot.InWord w (at + 1))))
 
 -- a further digit: none may follow a 0, and none may make the number too great
-abbrev pub digit : Draft → Place → ℕ → ℕ → Step
+abbrev pub digit : Draft → NumberAt → ℕ → ℕ → Step
 digit d p value x =
     cond (value == 0) Wrong
     (cond (nat_le (value * 10 + x) most_number) (On d (spot.Digits p (value * 10 + x))) Wrong)
 
 -- a first digit
-abbrev pub first_digit : Draft → Place → ℕ → Step
+abbrev pub first_digit : Draft → NumberAt → ℕ → Step
 first_digit d p b = cond (is_digit b) (On d (spot.Digits p (b - 48))) Wrong
 
 -- a number is due where there is room for its item
-abbrev pub room_for : ℕ → ℕ → Draft → Place → Step
+abbrev pub room_for : ℕ → ℕ → Draft → NumberAt → Step
 room_for count most d p = cond (nat_lt count most) (On d (spot.Due p)) Wrong
 
--- behind the bar of a state line, or behind an end
+-- behind the second bar of a state line, or behind a last job
+abbrev pub after_last : Grammar → Draft → ℕ → ℕ → ℕ → Step
+after_last g d parent job b =
+    cond (b == 32) (room_for (length d.last) g.most_items d (place.LastJob parent job))
+    (wants 10 b (Whole (line.State parent job d.pairs d.ends d.last)))
+
+-- Behind the first bar of a state line, or behind an end: where the version has last jobs, a space may come before an end and
+-- before the second bar.
 abbrev pub after_ends : Grammar → Draft → ℕ → ℕ → ℕ → Step
 after_ends g d parent job b =
-    cond (b == 32) (room_for (length d.ends) g.most_items d (place.EndJob parent job))
-    (wants 10 b (Whole (line.State parent job d.pairs d.ends)))
+    cond g.has_last
+    (wants 32 b (On d (spot.EndGap parent job)))
+    (cond (b == 32) (room_for (length d.ends) g.most_items d (place.EndJob parent job))
+    (wants 10 b (Whole (line.State parent job d.pairs d.ends d.last))))
 
 -- a pair more
-abbrev pub with_pair : Draft → Pair → Draft
-with_pair d p = record { pairs = d.pairs ++ p ∷ []; ends = d.ends }
+abbrev pub add_pair : Draft → Pair → Draft
+add_pair d p = record { pairs = d.pairs ++ p ∷ []; ends = d.ends; last = d.last }
 
 -- an end more
-abbrev pub with_end : Draft → EndOf → Draft
-with_end d e = record { pairs = d.pairs; ends = d.ends ++ e ∷ [] }
+abbrev pub add_end : Draft → EndOf → Draft
+add_end d e = record { pairs = d.pairs; ends = d.ends ++ e ∷ []; last = d.last }
+
+-- a last job more
+abbrev pub add_last : Draft → ℕ → Draft
+add_last d n = record { pairs = d.pairs; ends = d.ends; last = d.last ++ n ∷ [] }
 
 -- behind a pair of a root line
 abbrev pub after_root : Grammar → Draft → ℕ → Step
@@ -124,22 +134,23 @@ after_root g d b =
     (wants 10 b (Whole (line.Root d.pairs)))
 
 -- A number ends, by a byte that is no digit.
-abbrev pub after_number : Grammar → Draft → Place → ℕ → ℕ → Step
+abbrev pub after_number : Grammar → Draft → NumberAt → ℕ → ℕ → Step
 after_number g d place.HeadJobs v b = wants 32 b (On d (spot.Due (place.HeadCores v)))
 after_number g d (place.HeadCores jobs) v b = wants 10 b (Whole (line.Head jobs v))
 after_number g d place.LevelNumber v b = wants 32 b (On d (spot.Due (place.LevelCount v)))
 after_number g d (place.LevelCount number) v b = wants 10 b (Whole (line.Level number v))
 after_number g d place.RootLo v b = wants 58 b (On d (spot.Due (place.RootHi v)))
-after_number g d (place.RootHi lo) v b = after_root g (with_pair d (record { lo = lo; hi = v })) b
+after_number g d (place.RootHi lo) v b = after_root g (add_pair d (record { lo = lo; hi = v })) b
 after_number g d place.StateParent v b = wants 32 b (On d (spot.Due (place.StateJob v)))
 after_number g d (place.StateJob parent) v b = wants 32 b (On d (spot.Due (place.PairLo parent v)))
 after_number g d (place.PairLo parent job) v b = wants 58 b (On d (spot.Due (place.PairHi parent job v)))
 after_number g d (place.PairHi parent job lo) v b =
-    wants 32 b (On (with_pair d (record { lo = lo; hi = v })) (spot.PairGap parent job))
+    wants 32 b (On (add_pair d (record { lo = lo; hi = v })) (spot.PairGap parent job))
 after_number g d (place.EndJob parent job) v b = wants 58 b (On d (spot.Due (place.EndLo parent job v)))
 after_number g d (place.EndLo parent job of) v b = wants 58 b (On d (spot.Due (place.EndHi parent job of v)))
 after_number g d (place.EndHi parent job of lo) v b =
-    after_ends g (with_end d (record { job = of; lo = lo; hi = v })) parent job b
+    after_ends g (add_end d (record { job = of; lo = lo; hi = v })) parent job b
+after_number g d (place.LastJob parent job) v b = after_last g (add_last d v) parent job b
 after_number g d place.EdgeFrom v b = wants 32 b (On d (spot.Due (place.EdgeJob v)))
 after_number g d (place.EdgeJob from) v b = wants 32 b (On d (spot.Due (place.EdgeEst from v)))
 after_number g d (place.EdgeEst from job) v b = wants 32 b (On d (spot.Due (place.EdgeLst from job v)))
@@ -161,26 +172,30 @@ in_mark d to m at b =
     (cond (at + 1 == length (mark_text m)) (Whole (marked_line to m)) (On d (spot.InMark to m (at + 1))))
 
 -- A byte of a line.
-abbrev pub step : Grammar → Standing → Draft → Spot → ℕ → Step
-step g s d spot.Start b = begin s b
-step g s d spot.Forked b = cond (b == 100) (On d (spot.InWord word.Edge 2)) (wants 110 b (On d (spot.InWord word.End 2)))
-step g s d (spot.InWord w at) b = in_word g d w at b
-step g s d (spot.Due p) b = first_digit d p b
-step g s d (spot.Digits p value) b = cond (is_digit b) (digit d p value (b - 48)) (after_number g d p value b)
-step g s d (spot.PairGap parent job) b =
+abbrev pub byte_step : Grammar → Standing → Draft → Spot → ℕ → Step
+byte_step g s d spot.Start b = begin s b
+byte_step g s d spot.Forked b = cond (b == 100) (On d (spot.InWord word.Edge 2)) (wants 110 b (On d (spot.InWord word.End 2)))
+byte_step g s d (spot.InWord w at) b = in_word g d w at b
+byte_step g s d (spot.Due p) b = first_digit d p b
+byte_step g s d (spot.Digits p value) b = cond (is_digit b) (digit d p value (b - 48)) (after_number g d p value b)
+byte_step g s d (spot.PairGap parent job) b =
     cond (b == 124) (On d (spot.Barred parent job))
     (cond (nat_lt (length d.pairs) g.most_pairs) (first_digit d (place.PairLo parent job) b) Wrong)
-step g s d (spot.Barred parent job) b = after_ends g d parent job b
-step g s d (spot.MarkDue to) b =
+byte_step g s d (spot.Barred parent job) b = after_ends g d parent job b
+byte_step g s d (spot.EndGap parent job) b =
+    cond (b == 124) (On d (spot.Closed parent job))
+    (cond (nat_lt (length d.ends) g.most_items) (first_digit d (place.EndJob parent job) b) Wrong)
+byte_step g s d (spot.Closed parent job) b = after_last g d parent job b
+byte_step g s d (spot.MarkDue to) b =
     cond (b == 111) (On d (spot.InMark to mark.Ok 1)) (wants 109 b (On d (spot.InMark to mark.Miss 1)))
-step g s d (spot.InMark to m at) b = in_mark d to m at b
+byte_step g s d (spot.InMark to m at) b = in_mark d to m at b
 
 -- Bytes of a line. After a whole line no byte fits.
-abbrev pub steps : Grammar → Standing → Step → List ℕ → Step
-steps g s now [] = now
-steps g s (On d p) (b ∷ bs) = steps g s (step g s d p b) bs
-steps g s (Whole l) (b ∷ bs) = Wrong
-steps g s Wrong (b ∷ bs) = Wrong
+abbrev pub byte_steps : Grammar → Standing → Step → List ℕ → Step
+byte_steps g s now [] = now
+byte_steps g s (On d p) (b ∷ bs) = byte_steps g s (byte_step g s d p b) bs
+byte_steps g s (Whole l) (b ∷ bs) = Wrong
+byte_steps g s Wrong (b ∷ bs) = Wrong
 
 -- A certificate so far: its whole lines, and where the next line stands.
 pub record Text : Type 0 where
@@ -202,7 +217,7 @@ settle t Wrong = None
 
 -- a byte of a certificate
 abbrev pub advance : Grammar → Text → ℕ → Option Text
-advance g t b = settle t (step g t.standing t.draft t.spot b)
+advance g t b = settle t (byte_step g t.standing t.draft t.spot b)
 
 -- bytes of a certificate
 abbrev pub advances : Grammar → Option Text → List ℕ → Option Text
@@ -211,39 +226,40 @@ advances g None (b ∷ bs) = None
 advances g (Some t) (b ∷ bs) = advances g (advance g t b) bs
 
 -- before the first byte
-abbrev pub start : Text
-start = record { lines = []; standing = standing.First; draft = no_items; spot = spot.Start }
+abbrev pub text_start : Text
+text_start = record { lines = []; standing = standing.First; draft = no_items; spot = spot.Start }
 
 -- where the bytes of a certificate lead
 abbrev pub run : Grammar → List ℕ → Option Text
-run g bytes = advances g (Some start) bytes
+run g bytes = advances g (Some text_start) bytes
 
 -- the bytes of a line before a number
-abbrev pub place_front : Grammar → Draft → Place → List ℕ
-place_front g d place.HeadJobs = head_word g
-place_front g d (place.HeadCores jobs) = head_word g ++ decimal jobs ++ 32 ∷ []
-place_front g d place.LevelNumber = codes "level "
-place_front g d (place.LevelCount number) = codes "level " ++ decimal number ++ 32 ∷ []
-place_front g d place.RootLo = codes "root" ++ flat_map pair_text d.pairs ++ 32 ∷ []
-place_front g d (place.RootHi lo) = codes "root" ++ flat_map pair_text d.pairs ++ 32 ∷ [] ++ decimal lo ++ 58 ∷ []
-place_front g d place.StateParent = codes "state "
-place_front g d (place.StateJob parent) = codes "state " ++ decimal parent ++ 32 ∷ []
-place_front g d (place.PairLo parent job) = state_pairs parent job d.pairs ++ 32 ∷ []
-place_front g d (place.PairHi parent job lo) = state_pairs parent job d.pairs ++ 32 ∷ [] ++ decimal lo ++ 58 ∷ []
-place_front g d (place.EndJob parent job) = state_ends parent job d.pairs d.ends ++ 32 ∷ []
-place_front g d (place.EndLo parent job of) = state_ends parent job d.pairs d.ends ++ 32 ∷ [] ++ decimal of ++ 58 ∷ []
-place_front g d (place.EndHi parent job of lo) =
+abbrev pub number_front : Grammar → Draft → NumberAt → List ℕ
+number_front g d place.HeadJobs = head_word g
+number_front g d (place.HeadCores jobs) = head_word g ++ decimal jobs ++ 32 ∷ []
+number_front g d place.LevelNumber = codes "level "
+number_front g d (place.LevelCount number) = codes "level " ++ decimal number ++ 32 ∷ []
+number_front g d place.RootLo = codes "root" ++ flat_map pair_item_text d.pairs ++ 32 ∷ []
+number_front g d (place.RootHi lo) = codes "root" ++ flat_map pair_item_text d.pairs ++ 32 ∷ [] ++ decimal lo ++ 58 ∷ []
+number_front g d place.StateParent = codes "state "
+number_front g d (place.StateJob parent) = codes "state " ++ decimal parent ++ 32 ∷ []
+number_front g d (place.PairLo parent job) = state_pairs parent job d.pairs ++ 32 ∷ []
+number_front g d (place.PairHi parent job lo) = state_pairs parent job d.pairs ++ 32 ∷ [] ++ decimal lo ++ 58 ∷ []
+number_front g d (place.EndJob parent job) = state_ends parent job d.pairs d.ends ++ 32 ∷ []
+number_front g d (place.EndLo parent job of) = state_ends parent job d.pairs d.ends ++ 32 ∷ [] ++ decimal of ++ 58 ∷ []
+number_front g d (place.EndHi parent job of lo) =
     state_ends parent job d.pairs d.ends ++ 32 ∷ [] ++ decimal of ++ 58 ∷ [] ++ decimal lo ++ 58 ∷ []
-place_front g d place.EdgeFrom = codes "edge "
-place_front g d (place.EdgeJob from) = codes "edge " ++ decimal from ++ 32 ∷ []
-place_front g d (place.EdgeEst from job) = codes "edge " ++ decimal from ++ 32 ∷ [] ++ decimal job ++ 32 ∷ []
-place_front g d (place.EdgeLst from job est) =
+number_front g d (place.LastJob parent job) = state_last parent job d.pairs d.ends d.last ++ 32 ∷ []
+number_front g d place.EdgeFrom = codes "edge "
+number_front g d (place.EdgeJob from) = codes "edge " ++ decimal from ++ 32 ∷ []
+number_front g d (place.EdgeEst from job) = codes "edge " ++ decimal from ++ 32 ∷ [] ++ decimal job ++ 32 ∷ []
+number_front g d (place.EdgeLst from job est) =
     codes "edge " ++ decimal from ++ 32 ∷ [] ++ decimal job ++ 32 ∷ [] ++ decimal est ++ 32 ∷ []
-place_front g d (place.EdgeTo from job est lst) =
+number_front g d (place.EdgeTo from job est lst) =
     codes "edge " ++ decimal from ++ 32 ∷ [] ++ decimal job ++ 32 ∷ [] ++ decimal est ++ 32 ∷ [] ++ decimal lst ++ 32 ∷ []
-place_front g d place.JobNumber = codes "job "
-place_front g d (place.JobLo number) = codes "job " ++ decimal number ++ 32 ∷ []
-place_front g d (place.JobHi number lo) = codes "job " ++ decimal number ++ 32 ∷ [] ++ decimal lo ++ 32 ∷ []
+number_front g d place.JobNumber = codes "job "
+number_front g d (place.JobLo number) = codes "job " ++ decimal number ++ 32 ∷ []
+number_front g d (place.JobHi number lo) = codes "job " ++ decimal number ++ 32 ∷ [] ++ decimal lo ++ 32 ∷ []
 
 -- the bytes of a line before its mark
 abbrev pub mark_front : Marked → List ℕ
@@ -255,32 +271,35 @@ abbrev pub shown : Grammar → Draft → Spot → List ℕ
 shown g d spot.Start = []
 shown g d spot.Forked = codes "e"
 shown g d (spot.InWord w at) = take at (word_text g w)
-shown g d (spot.Due p) = place_front g d p
-shown g d (spot.Digits p value) = place_front g d p ++ decimal value
+shown g d (spot.Due p) = number_front g d p
+shown g d (spot.Digits p value) = number_front g d p ++ decimal value
 shown g d (spot.PairGap parent job) = state_pairs parent job d.pairs ++ 32 ∷ []
 shown g d (spot.Barred parent job) = state_ends parent job d.pairs d.ends
+shown g d (spot.EndGap parent job) = state_ends parent job d.pairs d.ends ++ 32 ∷ []
+shown g d (spot.Closed parent job) = state_last parent job d.pairs d.ends d.last
 shown g d (spot.MarkDue to) = mark_front to
 shown g d (spot.InMark to m at) = mark_front to ++ take at (mark_text m)
 
 -- what taking a byte within a line gives
-abbrev pub Gives : Step → Result Unit StepFault → Draft → Spot → Type 0
-Gives now (Ok u) d p = now ≡ On d p
-Gives now (Err fault.Wrong) d p = now ≡ Wrong
-Gives now (Err fault.Memory) d p = Unit {0}
+abbrev pub LeadsTo : Step → Result Unit StepFault → Draft → Spot → Type 0
+LeadsTo now (Ok u) d p = now ≡ On d p
+LeadsTo now (Err fault.Wrong) d p = now ≡ Wrong
+LeadsTo now (Err fault.Memory) d p = Unit {0}
 
 -- what taking the byte behind a line gives
-abbrev pub Ends : Step → Result CertLine StepFault → Type 0
-Ends now (Ok l) = now ≡ Whole l
-Ends now (Err fault.Wrong) = now ≡ Wrong
-Ends now (Err fault.Memory) = Unit {0}
+abbrev pub EndsLine : Step → Result CertLine StepFault → Type 0
+EndsLine now (Ok l) = now ≡ Whole l
+EndsLine now (Err fault.Wrong) = now ≡ Wrong
+EndsLine now (Err fault.Memory) = Unit {0}
 
--- the number is not the last of a pair, of an end or of a job line
-abbrev pub IsInner : Place → Type 0
-IsInner (place.RootHi lo) = ⊥
-IsInner (place.PairHi parent job lo) = ⊥
-IsInner (place.EndHi parent job of lo) = ⊥
-IsInner (place.JobHi number lo) = ⊥
-IsInner other = Unit {0}
+-- the number is not the last of a pair, of an end or of a job line, and no last job
+abbrev pub IsInnerNumber : NumberAt → Type 0
+IsInnerNumber (place.RootHi lo) = ⊥
+IsInnerNumber (place.PairHi parent job lo) = ⊥
+IsInnerNumber (place.EndHi parent job of lo) = ⊥
+IsInnerNumber (place.LastJob parent job) = ⊥
+IsInnerNumber (place.JobHi number lo) = ⊥
+IsInnerNumber other = Unit {0}
 
 -- where the last byte of a word leads, of other lines than the end
 abbrev pub Opens : Word → Spot → Type 0

@@ -3,12 +3,12 @@
 --     HasEnded bytes           the last whole line is an end line
 --     HoldsOpen, HoldsFault    what the bytes are where they begin a readable certificate, and where they begin none
 --     Held                     whole lines, the bytes behind them, and whether the last is End; or a fault
---     Takes g bytes held       this is held after the bytes
+--     HoldsAfter g bytes held       this is held after the bytes
 use Rattle.std.specs.Prelude.{ℕ, ◌≡◌, ◌+◌, ◌==◌, ◌↔◌, List, [], ◌∷◌, ◌++◌, length, cond, codes, Bool, IsTrue, count_by}
 use Rattle.std.specs.List.{fold}
 use Rattle.cert_text.specs.declared.fault.FeedFault.{FeedFault}
 use Rattle.cert_text.specs.declared.fault.FeedFault.TheVariants as fault
-use Rattle.cert_text.specs.declared.spot.Grammar.{Grammar}
+use Rattle.cert_text.specs.declared.grammar.Grammar.{Grammar}
 use Rattle.cert_text.specs.Readable.{IsPrefix}
 
 -- the byte that ends a line
@@ -48,7 +48,7 @@ pub data Held : Type 0 where
   Fault : FeedFault → Held
 
 -- This is held after the bytes. Want of memory says nothing of them.
-abbrev pub Takes : Grammar → List ℕ → Held → Type 0
-Takes g bytes (Open lines rest ended) = HoldsOpen g bytes lines rest ended
-Takes g bytes (Fault (fault.Text line byte)) = HoldsFault g bytes line byte
-Takes g bytes (Fault fault.Memory) = ⊥
+abbrev pub HoldsAfter : Grammar → List ℕ → Held → Type 0
+HoldsAfter g bytes (Open lines rest ended) = HoldsOpen g bytes lines rest ended
+HoldsAfter g bytes (Fault (fault.Text line byte)) = HoldsFault g bytes line byte
+HoldsAfter g bytes (Fault fault.Memory) = ⊥

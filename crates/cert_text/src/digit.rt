@@ -1,14 +1,13 @@
 //! The digits of a number.
 
-ghost use Rattle.std.specs.Prelude.{◌≡◌, ◌<◌, ◌≤◌, ◌^◌, take, length, IsTrue};
-ghost use Rattle.cert_text.specs.Machine.{Gives, is_digit, digit, first_digit};
+ghost use Rattle.std.specs.Prelude.{◌≡◌, ◌<◌, ◌≤◌, take, length, IsTrue};
+ghost use Rattle.cert_text.specs.Grammar.{IsCertNumber};
+ghost use Rattle.cert_text.specs.Machine.{LeadsTo, is_digit, digit, first_digit};
 ghost use Rattle.cert_text.specs.Kept.{DigitsLead};
 
+use crate::grammar::MOST_NUMBER;
 use crate::machine::StepFault;
-use crate::spot::{Draft, Place, Spot};
-
-/// The greatest number of a certificate.
-const MOST_NUMBER: u64 = 4611686018427387903;
+use crate::spot::{Draft, NumberAt, Spot};
 
 /// Whether a byte is a digit.
 pub fn is_digit_byte(byte: u8) -> bool
@@ -19,8 +18,8 @@ pub fn is_digit_byte(byte: u8) -> bool
 }
 
 /// Takes the first digit of a number.
-pub fn take_first_digit(spot: &mut Spot, place: Place, byte: u8) -> Result<(), StepFault>
-    ensures { (d : Draft) → Gives (first_digit d place byte) result d spot.new }
+pub fn take_first_digit(spot: &mut Spot, place: NumberAt, byte: u8) -> Result<(), StepFault>
+    ensures { (d : Draft) → LeadsTo (first_digit d place byte) result d spot.new }
 {
     if is_digit_byte(byte) {
         *spot = Spot::Digits {
@@ -34,10 +33,10 @@ pub fn take_first_digit(spot: &mut Spot, place: Place, byte: u8) -> Result<(), S
 }
 
 /// Takes a further digit of a number, where it fits.
-pub fn take_digit(spot: &mut Spot, place: Place, value: u64, x: u64) -> Result<(), StepFault>
-    requires value { value < 2 ^ 62 }
+pub fn take_digit(spot: &mut Spot, place: NumberAt, value: u64, x: u64) -> Result<(), StepFault>
+    requires value { IsCertNumber value }
     requires x { x < 10 }
-    ensures { (d : Draft) → Gives (digit d place value x) result d spot.new }
+    ensures { (d : Draft) → LeadsTo (digit d place value x) result d spot.new }
 {
     if value == 0 {
         return Err(StepFault::Wrong);

@@ -1,14 +1,16 @@
 //! The bytes of a piece, up to the end of a line.
 
 ghost use Rattle.std.specs.Prelude.{◌≡◌, ◌==◌, ◌<◌, ◌≤◌, ◌^◌, false, length, take};
-ghost use Rattle.cert_text.specs.Machine.{On, no_items, step};
-ghost use Rattle.cert_text.specs.Kept.{EndsPiece, KeptSpot, Leads, TakesPiece};
+ghost use Rattle.cert_text.specs.Machine.{On, no_items, byte_step};
+ghost use Rattle.cert_text.specs.Kept.{EndsPiece, KeptSpot, MovesSpot, TakesPiece};
 
 use crate::digit::take_digits;
-use crate::line::{CertLine, EndList, Pairs};
+use crate::grammar::Grammar;
+use crate::line::{CertLine, EndList, Numbers, Pairs};
 use crate::line_end::end_line;
 use crate::machine::{StepFault, on_byte};
-use crate::spot::{Draft, Grammar, Spot, Standing};
+use crate::spot::{Draft, Spot, Standing};
+use crate::whole_lines::whole_line;
 use crate::words::take_word;
 use std::alloc::Global;
 
@@ -19,18 +21,20 @@ pub enum LineFault {
     Memory,
 }
 
+/// No items yet.
 pub fn no_draft(alloc: Global) -> Draft
     ensures { result ≡ no_items }
 {
     Draft {
         pairs: Pairs::new(alloc),
         ends: EndList::new(alloc),
+        last: Numbers::new(alloc),
     }
 }
 
 /// What was taken of a piece.
 #[derive(Drop)]
-pub enum Progress {
+pub enum PieceEnd {
     /// All of it, and the line goes on.
     Part { count: usize },
     /// The bytes through the end of a line.
@@ -40,7 +44,7 @@ pub enum Progress {
 // Takes what can be taken at once, a word or digits, and gives the number of bytes taken.
 fn take_run(standing: Standing, spot: &mut Spot, bytes: &[u8]) -> usize
     ensures within { result ≤ length bytes.now }
-    ensures leads { Leads standing spot.old (take result bytes.now) spot.new }
+    ensures leads { MovesSpot standing spot.old (take result bytes.now) spot.new }
 {
     if let Spot::Digits { value, .. } = spot {
         take_digits(value, bytes)
@@ -56,18 +60,18 @@ fn take_lf(
     draft: &mut Draft,
     spot: &mut Spot,
     index: usize,
-) -> Result<Progress, LineFault>
+) -> Result<PieceEnd, LineFault>
     requires version { (grammar.version == 10) ≡ false }
     requires kept { KeptSpot grammar draft.old spot.old }
     requires index { index < 2 ^ 63 }
     ensures { (s : Standing) →
-        EndsPiece (step grammar s draft.old spot.old 10) index result draft.new spot.new }
+        EndsPiece (byte_step grammar s draft.old spot.old 10) index result draft.new spot.new }
 {
     match end_line(alloc, grammar, draft, *spot) {
         Ok(line) => {
             *draft = no_draft(alloc);
             *spot = Spot::Start;
-            Ok(Progress::Line {
+            Ok(PieceEnd::Line {
                 count: index + 1,
                 line,
             })
@@ -85,12 +89,15 @@ pub fn take_piece(
     draft: &mut Draft,
     spot: &mut Spot,
     piece: &[u8],
-) -> Result<Progress, LineFault>
+) -> Result<PieceEnd, LineFault>
     requires some { 0 < grammar.most_pairs }
     requires version { (grammar.version == 10) ≡ false }
     requires kept { KeptSpot grammar draft.old spot.old }
     ensures { TakesPiece grammar standing (On draft.old spot.old) piece.now result draft.new spot.new }
 {
+    if let Some(end) = whole_line(alloc, grammar, standing, *spot, piece) {
+        return Ok(end);
+    }
     let mut at = 0;
     while at < piece.len() {
         at += take_run(standing, spot, &piece[at..]);
@@ -107,5 +114,5 @@ pub fn take_piece(
             Err(StepFault::Memory) => return Err(LineFault::Memory),
         }
     }
-    Ok(Progress::Part { count: piece.len() })
+    Ok(PieceEnd::Part { count: piece.len() })
 }

@@ -1,6 +1,6 @@
 //! Laws of readable certificates.
 
-ghost use Rattle.cert_text.specs.Laws.{OneSpelling, OneReading, NoProperPrefix, OneHeld, SpelledLines, TakesPrefixes};
+ghost use Rattle.cert_text.specs.Laws.{OneSpelling, OneReading, NoProperPrefix, OldLinesFit, OneHeld, SpelledLines, TakesPrefixes};
 
 /// A list of lines has one spelling.
 pub fn one_spelling()
@@ -30,4 +30,9 @@ pub fn one_held()
 /// The machine takes bytes exactly where they are a prefix of a readable certificate.
 pub fn takes_prefixes()
     ensures { TakesPrefixes }
+{}
+
+/// A line of the old version is one of the new, without last jobs.
+pub fn old_lines_fit()
+    ensures { OldLinesFit }
 {}

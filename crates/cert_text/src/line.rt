@@ -111,6 +111,47 @@ impl EndList {
     }
 }
 
+/// A list of job numbers.
+#[derive(Drop)]
+pub struct Numbers {
+    items: Vec<u64>,
+}
+
+impl Model for Numbers {
+    ghost use Rattle.std.specs.Prelude.{List, ℕ};
+
+    ghost Value = { List ℕ };
+
+    ghost view = { λ s. s.items.items };
+}
+
+impl Numbers {
+    /// No numbers.
+    pub fn new(alloc: Global) -> Numbers
+        ensures { result ≡ [] }
+    {
+        Numbers {
+            items: Vec::new(alloc),
+        }
+    }
+
+    /// Appends a number.
+    pub fn push(&mut self, item: u64) -> Result<(), AllocError>
+        ensures ok { OnOk result (self.new ≡ self.old ++ item ∷ []) }
+        ensures err { OnErr result (self.new ≡ self.old) }
+    {
+        self.items.push(item)?;
+        Ok(())
+    }
+
+    /// The list.
+    pub fn as_slice(&self) -> &[u64]
+        ensures { result.now ≡ self.now }
+    {
+        self.items.as_slice()
+    }
+}
+
 /// A line of a certificate.
 #[derive(Drop)]
 pub enum CertLine {
@@ -130,6 +171,7 @@ pub enum CertLine {
         job: u64,
         pairs: Pairs,
         ends: EndList,
+        last: Numbers,
     },
     Edge {
         from: u64,

@@ -1,31 +1,6 @@
 //! Where in a line the next byte stands.
 
-ghost use Rattle.std.specs.Prelude.{◌≡◌};
-ghost use Rattle.cert_text.specs.Spelling.{first_version};
-
-use crate::line::{EndList, Pairs};
-
-/// A version of the format.
-#[derive(Clone, Copy)]
-pub struct Grammar {
-    /// The digit of the head line.
-    pub version: u8,
-    /// The most pairs of a root or a state line.
-    pub most_pairs: usize,
-    /// The most ends of a state line.
-    pub most_items: usize,
-}
-
-/// The version that is read and written.
-pub fn first_version() -> Grammar
-    ensures { result ≡ first_version }
-{
-    Grammar {
-        version: b'1',
-        most_pairs: 64,
-        most_items: 4096,
-    }
-}
+use crate::line::{EndList, Mark, Numbers, Pairs};
 
 /// Which lines may come.
 #[derive(Clone, Copy)]
@@ -53,7 +28,7 @@ pub enum Word {
 
 /// Which number of a line comes, with the numbers before it.
 #[derive(Clone, Copy)]
-pub enum Place {
+pub enum NumberAt {
     HeadJobs,
     HeadCores {
         jobs: u64,
@@ -93,6 +68,10 @@ pub enum Place {
         job: u64,
         of: u64,
         lo: u64,
+    },
+    LastJob {
+        parent: u64,
+        job: u64,
     },
     EdgeFrom,
     EdgeJob {
@@ -144,11 +123,11 @@ pub enum Spot {
     },
     /// a number is due
     Due {
-        place: Place,
+        place: NumberAt,
     },
     /// in a number, with the value of the digits so far
     Digits {
-        place: Place,
+        place: NumberAt,
         value: u64,
     },
     /// behind the space after a pair of a state
@@ -156,8 +135,18 @@ pub enum Spot {
         parent: u64,
         job: u64,
     },
-    /// behind the bar
+    /// behind the first bar of a state
     Barred {
+        parent: u64,
+        job: u64,
+    },
+    /// behind the space after the ends of a state
+    EndGap {
+        parent: u64,
+        job: u64,
+    },
+    /// behind the second bar of a state
+    Closed {
         parent: u64,
         job: u64,
     },
@@ -168,7 +157,7 @@ pub enum Spot {
     /// in a mark with its LF, of which so many bytes have come
     InMark {
         marked: Marked,
-        mark: crate::line::Mark,
+        mark: Mark,
         at: usize,
     },
 }
@@ -178,4 +167,5 @@ pub enum Spot {
 pub struct Draft {
     pub pairs: Pairs,
     pub ends: EndList,
+    pub last: Numbers,
 }

@@ -1,31 +1,32 @@
 //! The words that begin lines, and the marks that end some.
 
 ghost use Rattle.std.specs.Prelude.{◌≡◌, ◌<◌, ◌≤◌, ◌==◌, false, length, get_or, take};
-ghost use Rattle.cert_text.specs.Machine.{Gives, Opens, begin, in_mark, in_word, no_items, step, word_text};
+ghost use Rattle.cert_text.specs.Machine.{LeadsTo, Opens, begin, in_mark, in_word, no_items, byte_step, word_text};
 ghost use Rattle.cert_text.specs.Spelling.{mark_text};
-ghost use Rattle.cert_text.specs.Kept.{Leads};
+ghost use Rattle.cert_text.specs.Kept.{MovesSpot};
 
+use crate::grammar::Grammar;
 use crate::line::Mark;
 use crate::machine::StepFault;
-use crate::spot::{Draft, Grammar, Marked, Place, Spot, Standing, Word};
+use crate::spot::{Draft, Marked, NumberAt, Spot, Standing, Word};
 
 /// Takes the whole word of an edge or a state line, where the bytes begin with it at the beginning of a line, and gives the
 /// number of bytes taken.
 pub fn take_word(standing: Standing, spot: &mut Spot, bytes: &[u8]) -> usize
     ensures within { result ≤ length bytes.now }
-    ensures leads { Leads standing spot.old (take result bytes.now) spot.new }
+    ensures leads { MovesSpot standing spot.old (take result bytes.now) spot.new }
 {
     let (Standing::Inside, Spot::Start) = (standing, *spot) else {
         return 0;
     };
     if bytes.starts_with(b"edge ") {
         *spot = Spot::Due {
-            place: Place::EdgeFrom,
+            place: NumberAt::EdgeFrom,
         };
         5
     } else if bytes.starts_with(b"state ") {
         *spot = Spot::Due {
-            place: Place::StateParent,
+            place: NumberAt::StateParent,
         };
         6
     } else {
@@ -35,7 +36,7 @@ pub fn take_word(standing: Standing, spot: &mut Spot, bytes: &[u8]) -> usize
 
 /// Takes the first byte of a line.
 pub fn first_byte(spot: &mut Spot, standing: Standing, byte: u8) -> Result<(), StepFault>
-    ensures { Gives (begin standing byte) result no_items spot.new }
+    ensures { LeadsTo (begin standing byte) result no_items spot.new }
 {
     let word = match (standing, byte) {
         (Standing::First, b's') => Word::Head,
@@ -56,7 +57,7 @@ pub fn first_byte(spot: &mut Spot, standing: Standing, byte: u8) -> Result<(), S
 
 /// Takes the second byte of an edge line or the end.
 pub fn second_byte(spot: &mut Spot, byte: u8) -> Result<(), StepFault>
-    ensures { (g : Grammar) (s : Standing) (d : Draft) → Gives (step g s d Spot.Forked byte) result d spot.new }
+    ensures { (g : Grammar) (s : Standing) (d : Draft) → LeadsTo (byte_step g s d Spot.Forked byte) result d spot.new }
 {
     let word = match byte {
         b'd' => Word::Edge,
@@ -67,6 +68,7 @@ pub fn second_byte(spot: &mut Spot, byte: u8) -> Result<(), StepFault>
     Ok(())
 }
 
+// The byte of a word with this index.
 fn word_byte(grammar: Grammar, word: Word, at: usize) -> u8
     requires { at < length (word_text grammar word) }
     ensures { result ≡ get_or (word_text grammar word) at 0 }
@@ -97,6 +99,7 @@ fn word_byte(grammar: Grammar, word: Word, at: usize) -> u8
     }
 }
 
+// The number of bytes of a word.
 fn word_length(grammar: Grammar, word: Word) -> usize
     ensures { result ≡ length (word_text grammar word) }
 {
@@ -117,12 +120,12 @@ fn behind_word(word: Word) -> Spot
     ensures { Opens word result }
 {
     let place = match word {
-        Word::Head => Place::HeadJobs,
-        Word::Level => Place::LevelNumber,
-        Word::Root => Place::RootLo,
-        Word::State => Place::StateParent,
-        Word::Edge => Place::EdgeFrom,
-        Word::Job => Place::JobNumber,
+        Word::Head => NumberAt::HeadJobs,
+        Word::Level => NumberAt::LevelNumber,
+        Word::Root => NumberAt::RootLo,
+        Word::State => NumberAt::StateParent,
+        Word::Edge => NumberAt::EdgeFrom,
+        Word::Job => NumberAt::JobNumber,
         Word::Verdict => {
             return Spot::MarkDue {
                 marked: Marked::Verdict,
@@ -143,7 +146,7 @@ pub fn word_step(
 ) -> Result<(), StepFault>
     requires within { at < length (word_text grammar word) }
     requires no_lf { (byte == 10) ≡ false }
-    ensures { (d : Draft) → Gives (in_word grammar d word at byte) result d spot.new }
+    ensures { (d : Draft) → LeadsTo (in_word grammar d word at byte) result d spot.new }
 {
     if byte != word_byte(grammar, word, at) {
         return Err(StepFault::Wrong);
@@ -156,6 +159,7 @@ pub fn word_step(
     Ok(())
 }
 
+// The byte of a mark with this index.
 fn mark_byte(mark: Mark, at: usize) -> u8
     requires { at < length (mark_text mark) }
     ensures { result ≡ get_or (mark_text mark) at 0 }
@@ -166,6 +170,7 @@ fn mark_byte(mark: Mark, at: usize) -> u8
     }
 }
 
+/// The number of bytes of a mark, with its LF.
 pub fn mark_length(mark: Mark) -> usize
     ensures { result ≡ length (mark_text mark) }
 {
@@ -177,7 +182,7 @@ pub fn mark_length(mark: Mark) -> usize
 
 /// Takes the first byte of a mark.
 pub fn first_mark_byte(spot: &mut Spot, marked: Marked, byte: u8) -> Result<(), StepFault>
-    ensures { (g : Grammar) (s : Standing) (d : Draft) → Gives (step g s d (Spot.MarkDue marked) byte) result d spot.new }
+    ensures { (g : Grammar) (s : Standing) (d : Draft) → LeadsTo (byte_step g s d (Spot.MarkDue marked) byte) result d spot.new }
 {
     let mark = match byte {
         b'o' => Mark::Ok,
@@ -202,7 +207,7 @@ pub fn mark_step(
 ) -> Result<(), StepFault>
     requires within { at < length (mark_text mark) }
     requires no_lf { (byte == 10) ≡ false }
-    ensures { (d : Draft) → Gives (in_mark d marked mark at byte) result d spot.new }
+    ensures { (d : Draft) → LeadsTo (in_mark d marked mark at byte) result d spot.new }
 {
     if byte != mark_byte(mark, at) {
         return Err(StepFault::Wrong);

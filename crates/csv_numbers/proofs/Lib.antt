@@ -1,7 +1,9 @@
-pub mod Exact
 mod FieldLemmas
-pub mod FirstFaults
+mod FlatLemmas
 mod LineLemmas
+mod OneFirstFault
 mod ReadBack
 mod RowLemmas
-pub mod Splits
+mod RowsAgree
+mod RowsKeepRules
+mod TextRecords

@@ -9,7 +9,7 @@ use Rattle.std.proofs.lemmas.List.{length-map, take_more}
 use Rattle.std.proofs.lemmas.List.Concat.{flat_map-append}
 use Rattle.std.proofs.lemmas.Str.Parse.{digit_at}
 use Rattle.csv.specs.Writing.{default_writer, field_text, fields_text, is_blank, needs_byte, row_text}
-use Rattle.csv_numbers.specs.TableText.{are_plain, is_plain, is_plain_byte, line_of, row_line, table_text}
+use Rattle.csv_numbers.specs.RowsText.{are_plain, is_plain, is_plain_byte, line_of, row_line, rows_text}
 
 -- what a plain byte is
 pub plain-parts : (b : ℕ) → is_plain_byte b ≡ true → (32 ≤ b) × (b < 127) × ((b == 44) ≡ false) × ((b == 34) ≡ false)
@@ -100,15 +100,15 @@ row_text-numbers numbers lt fit =
     row_text-plain (map decimal numbers) (and_from (not (length (map decimal numbers) == 0)) (list_all is_plain (map decimal numbers)) (ap not some) (all-decimals numbers fit))
 
 -- the text of a heading alone
-pub table_text-none : (heading : List (List ℕ)) → are_plain heading ≡ true → row_text default_writer heading ≡ table_text heading []
-unfolding table_text
-table_text-none heading h = row_text-plain heading h ∙ sym (append-nil (line_of heading))
+pub rows_text-none : (heading : List (List ℕ)) → are_plain heading ≡ true → row_text default_writer heading ≡ rows_text heading []
+unfolding rows_text
+rows_text-none heading h = row_text-plain heading h ∙ sym (append-nil (line_of heading))
 
 -- the text with one more row
-pub table_text-more : (heading : List (List ℕ)) (rows : List (List ℕ)) (i : ℕ) (numbers : List ℕ) → i < length rows → numbers ≡ get_or rows i [] → 0 < length numbers → All (λ n. n < 2 ^ 64) numbers
-    → table_text heading (take i rows) ++ row_text default_writer (map decimal numbers) ≡ table_text heading (take (i + 1) rows)
-unfolding table_text
-table_text-more heading rows i numbers lt is some fit =
+pub rows_text-more : (heading : List (List ℕ)) (rows : List (List ℕ)) (i : ℕ) (numbers : List ℕ) → i < length rows → numbers ≡ get_or rows i [] → 0 < length numbers → All (λ n. n < 2 ^ 64) numbers
+    → rows_text heading (take i rows) ++ row_text default_writer (map decimal numbers) ≡ rows_text heading (take (i + 1) rows)
+unfolding rows_text
+rows_text-more heading rows i numbers lt is some fit =
     let more : take (i + 1) rows ≡ take i rows ++ numbers ∷ [] = take_more rows i [] lt ∙ ap (λ (r : List ℕ). take i rows ++ r ∷ []) (sym is) in
     let lines : flat_map row_line (take (i + 1) rows) ≡ flat_map row_line (take i rows) ++ row_line numbers =
     ap (flat_map row_line) more ∙ flat_map-append row_line (take i rows) (numbers ∷ []) ∙ ap (λ (t : List ℕ). flat_map row_line (take i rows) ++ t) (append-nil (row_line numbers)) in

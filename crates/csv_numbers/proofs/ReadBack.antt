@@ -15,7 +15,7 @@ use Rattle.csv.specs.Writing.{default_writer, read_back, row_text}
 use Rattle.csv.specs.declared.parser.State.TheVariants as st
 use Rattle.csv_numbers.specs.Fields.{Spells, bare, is_blank, without_blanks}
 use Rattle.csv_numbers.specs.Rows.{Reads, Record, RowReads, Rows}
-use Rattle.csv_numbers.specs.TableText.{are_plain, is_plain, is_plain_byte, line_of, row_line, table_text}
+use Rattle.csv_numbers.specs.RowsText.{are_plain, is_plain, is_plain_byte, line_of, row_line, rows_text}
 use Rattle.csv_numbers.proofs.FieldLemmas.{back-stop, front-stop}
 use Rattle.csv_numbers.proofs.LineLemmas.{plain-parts, row_text-numbers, row_text-plain}
 
@@ -87,8 +87,8 @@ strip-other a (b ∷ []) e = refl
 strip-other a (b ∷ c ∷ rest) e = rw e refl
 
 -- a plain heading begins with no byte order mark
-strip-plain : (heading rows : List (List ℕ)) → are_plain heading ≡ true → strip_bom (table_text heading rows) ≡ table_text heading rows
-unfolding table_text
+strip-plain : (heading rows : List (List ℕ)) → are_plain heading ≡ true → strip_bom (rows_text heading rows) ≡ rows_text heading rows
+unfolding rows_text
 strip-plain [] rows h = cc h
 strip-plain ([] ∷ words) rows h =
     let none : false ≡ true = (and_parts (not (length ([] ∷ words) == 0)) (list_all is_plain ([] ∷ words)) h).1 in
@@ -109,11 +109,11 @@ strip-plain ((b ∷ word) ∷ words) rows h = by words (strip-first words h)
     by (next ∷ words) e = strip-other b _ e
 
 -- what is written reads back
-pub table_text-reads : (width : ℕ) (heading rows : List (List ℕ)) → are_plain heading ≡ true → length heading ≡ width → 0 < width → All (IsRow width) rows → Rows (table_text heading rows) width rows
-unfolding table_text Reached next_record
-table_text-reads width heading rows plain is lt h =
+pub rows_text-reads : (width : ℕ) (heading rows : List (List ℕ)) → are_plain heading ≡ true → length heading ≡ width → 0 < width → All (IsRow width) rows → Rows (rows_text heading rows) width rows
+unfolding rows_text Reached next_record
+rows_text-reads width heading rows plain is lt h =
     let lines : List ℕ = flat_map row_line rows in
-    let first : Reached default_config st.StartRecord (strip_bom (table_text heading rows)) (heading ∷ map (map decimal) rows) st.StartRecord [] =
+    let first : Reached default_config st.StartRecord (strip_bom (rows_text heading rows)) (heading ∷ map (map decimal) rows) st.StartRecord [] =
     rw (strip-plain heading rows plain)
     ((read_back heading, st.StartRecord, lines), line-read heading (line_of heading) lines (row_text-plain heading plain), sym (back-some heading (omega (arith, is))), lines-reached width rows lt h) in
     record { heading = heading; rows = map (map decimal) rows; records_are = (st.StartRecord, [], first, refl); numbers_are = rows-read width rows h }

@@ -1,6 +1,7 @@
 pub mod Fields
 pub mod Rows
-pub mod TableText
+pub mod RowsText
 pub mod Laws
 pub mod RowFaults
-pub mod Written
+pub mod Streams
+pub mod FlatRows

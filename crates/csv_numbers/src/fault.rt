@@ -1,4 +1,4 @@
-// Why a table is refused.
+//! Why a table is refused.
 
 use thiserror::Error;
 

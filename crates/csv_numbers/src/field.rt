@@ -1,10 +1,13 @@
-// One number: its digits and its value; and the blanks at the ends of a field.
+//! One number: its digits and its value; and the blanks at the ends of a field.
 
-ghost use Rattle.std.specs.Prelude.{◌≡◌, ◌≤◌, ◌<◌, ◌^◌, ◌↔◌, IsTrue, MatchResult, MatchOption, reverse};
+ghost use Rattle.std.specs.Prelude.{◌≡◌, ◌≤◌, ◌<◌, ◌^◌, ◌↔◌, IsTrue, length, MatchResult, MatchOption, reverse};
 ghost use Rattle.csv_numbers.specs.Fields.{IsNumber, IsTooBig, Spells, bare, is_blank, value_of, without_blanks};
 ghost use Rattle.csv_numbers.specs.RowFaults.{IsFaultOf};
 
 use thiserror::Error;
+
+// As many digits fit 64 bits, whichever they are.
+const SHORT: usize = 19;
 
 /// Why a text spells no number of 64 bits.
 #[derive(Clone, Copy, Debug, PartialEq, Eq, Error)]
@@ -73,8 +76,26 @@ fn value(digits: &[u8]) -> Option<u64>
     Some(value)
 }
 
-/// The number that a text spells: one or more ASCII digits and nothing else, with any number of zeros in front.
-pub fn read_number(text: &[u8]) -> Result<u64, NumberFault>
+// The number that a text of at most 19 bytes spells. No such number is too big.
+fn read_short(text: &[u8]) -> Result<u64, NumberFault>
+    requires { length text.now ≤ 19 }
+    ensures { MatchResult result (Spells text.now) (IsFaultOf text.now) }
+{
+    if text.is_empty() {
+        return Err(NumberFault::NotNumber);
+    }
+    let mut value = 0u64;
+    for byte in text {
+        if !byte.is_ascii_digit() {
+            return Err(NumberFault::NotNumber);
+        }
+        value = value * 10 + u64::from(*byte - b'0');
+    }
+    Ok(value)
+}
+
+// The number that a text spells, which may be of any length.
+fn read_long(text: &[u8]) -> Result<u64, NumberFault>
     ensures { MatchResult result (Spells text.now) (IsFaultOf text.now) }
 {
     if !is_number(text) {
@@ -83,6 +104,17 @@ pub fn read_number(text: &[u8]) -> Result<u64, NumberFault>
     match value(text) {
         Some(number) => Ok(number),
         None => Err(NumberFault::TooBig),
+    }
+}
+
+/// The number that a text spells: one or more ASCII digits and nothing else, with any number of zeros in front.
+pub fn read_number(text: &[u8]) -> Result<u64, NumberFault>
+    ensures { MatchResult result (Spells text.now) (IsFaultOf text.now) }
+{
+    if text.len() <= SHORT {
+        read_short(text)
+    } else {
+        read_long(text)
     }
 }
 

@@ -1,4 +1,4 @@
-// Laws of texts of numbers.
+//! Laws of texts of numbers.
 
 ghost use Rattle.csv_numbers.specs.Laws.{OneFirstFault, RowsAgree, RowsKeepRules};
 

@@ -4,13 +4,15 @@
 mod fault;
 mod field;
 mod laws;
+mod read;
 mod rows;
-mod table;
 #[cfg(test)]
 mod tests;
+mod write;
 
 pub use fault::CsvFault;
 pub use field::{NumberFault, read_number};
 pub use laws::{one_first_fault, rows_agree, rows_keep_rules};
-pub use rows::{NumberRow, read_numbers};
-pub use table::write_table;
+pub use read::read_numbers;
+pub use rows::NumberRows;
+pub use write::write_table;

@@ -1,5 +1,18 @@
 use crate::{CsvFault, NumberFault, read_number, read_numbers, write_table};
+use std::alloc::Global;
 use std::test::Fail;
+
+// The numbers of all rows of one column.
+fn column(alloc: Global, text: &[u8]) -> Result<Vec<u64>, Fail> {
+    let rows = read_numbers(alloc, text, 1)?;
+    let mut numbers = Vec::new(alloc);
+    for place in 0..rows.len() {
+        for number in rows.row(place) {
+            numbers.push(*number)?;
+        }
+    }
+    Ok(numbers)
+}
 
 #[test]
 fn reads_numbers(rt: HostRuntime) -> Result<(), Fail> {
@@ -38,11 +51,7 @@ fn reads_numbers(rt: HostRuntime) -> Result<(), Fail> {
         ),
     ];
     for (text, want) in cases {
-        let mut numbers = Vec::new(rt.alloc());
-        for row in &read_numbers(rt.alloc(), text, 1)? {
-            numbers.push(row.as_slice()[0])?;
-        }
-        assert_eq!(rt; numbers.as_slice(), want, "{text:?}");
+        assert_eq!(rt; column(rt.alloc(), text)?.as_slice(), want, "{text:?}");
     }
     Ok(())
 }
@@ -102,6 +111,9 @@ fn reads_one_number(rt: HostRuntime) {
     for (text, want) in [
         (b"0".as_slice(), Ok(0)),
         (b"007".as_slice(), Ok(7)),
+        // The greatest number of 19 digits, and longer ones.
+        (b"9999999999999999999".as_slice(), Ok(9999999999999999999)),
+        (b"00000000000000000000".as_slice(), Ok(0)),
         (b"18446744073709551615".as_slice(), Ok(18446744073709551615)),
         (b"18446744073709551616".as_slice(), Err(NumberFault::TooBig)),
         (b"".as_slice(), Err(NumberFault::NotNumber)),
@@ -123,9 +135,26 @@ fn reads_many_zeros(rt: HostRuntime) -> Result<(), Fail> {
         text.push(b'0')?;
     }
     text.push(b'5')?;
-    let rows = read_numbers(rt.alloc(), text.as_slice(), 1)?;
-    assert_eq!(rt; rows.len(), 1);
-    assert_eq!(rt; rows[0].as_slice(), [5].as_slice());
+    assert_eq!(rt;
+        column(rt.alloc(), text.as_slice())?.as_slice(),
+        [5].as_slice()
+    );
+    Ok(())
+}
+
+#[test]
+fn keeps_rows_apart(rt: HostRuntime) -> Result<(), Fail> {
+    let rows = read_numbers(
+        rt.alloc(),
+        b"h
+1,2,3
+4,5,6
+",
+        3,
+    )?;
+    assert_eq!(rt; rows.len(), 2);
+    assert_eq!(rt; rows.row(0), [1, 2, 3].as_slice());
+    assert_eq!(rt; rows.row(1), [4, 5, 6].as_slice());
     Ok(())
 }
 

@@ -2,11 +2,11 @@
 use Rattle.std.proofs.Common.{◌≡◌, suc, ◌&&◌, List, [], ◌∷◌, ◌++◌, length, map, replicate, Option, None, refl, ap, sym, ◌∙◌, arith}
 use Rattle.std.specs.List.{list_all}
 use Rattle.std.proofs.lemmas.List.{length_push, replicate_more}
-use Rattle.job_model.specs.declared.Job.{Job}
+use Rattle.job_model.specs.declared.job_row.Job.{Job}
 use Rattle.sag_time.specs.Interval.{Interval}
 use Rattle.cert_text.specs.declared.line.Mark.{Mark}
 use Rattle.graph_check.specs.Entries.{is_ok_mark}
-use Rattle.graph_check.specs.Comings.{entries_of}
+use Rattle.graph_check.specs.Told.{entries_of}
 
 -- no job has an edge yet
 pub no-hulls : (jobs : List Job) → ◌≡◌ {A = List (Option Interval)} (replicate (length jobs) None) (map (λ _. None) jobs)

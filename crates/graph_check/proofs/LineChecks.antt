@@ -9,16 +9,16 @@ use Rattle.job_model.specs.Table.{Table, job_at}
 use Rattle.sag_time.specs.Interval.{Interval}
 use Rattle.sag_step.specs.State.{SystemState}
 use Rattle.sag_step.specs.Widen.{widens}
-use Rattle.sag_step.specs.Group.{Offer, offers}
+use Rattle.sag_step.specs.Offers.{Offer, offers}
 use Rattle.cert_text.specs.declared.line.Mark.{Mark}
-use Rattle.graph_check.specs.declared.reading.Clause.{Clause}
-use Rattle.graph_check.specs.declared.reading.Clause.TheVariants.{K2, K6, K7, K8, K9, K10, K11}
-use Rattle.graph_check.specs.declared.offer_walk.Turn.{Turn}
+use Rattle.graph_check.specs.declared.clause.Clause.{Clause}
+use Rattle.graph_check.specs.declared.clause.Clause.TheVariants.{K2, K6, K7, K8, K9, K10, K11}
+use Rattle.graph_check.specs.declared.turn.Turn.{Turn}
 use Rattle.graph_check.specs.Entries.{JobEntry, is_ok_mark}
-use Rattle.graph_check.specs.Reading.{Reading}
+use Rattle.graph_check.specs.Progress.{Progress}
 use Rattle.graph_check.specs.Checks.{covers_hull, edge_checks, first_broken, job_checks}
 use Rattle.graph_check.specs.Turns.{HeldTurns, offer_at, turn_of}
-use Rattle.graph_check.specs.Comings.{HeldReading, edge_offer}
+use Rattle.graph_check.specs.Comings.{HeldProgress, edge_offer}
 
 some-is-no-none : (o : Option Interval) (span : Interval) → o ≡ Some span → IsNone o → ⊥
 some-is-no-none o span is never = let f = subst IsNone is never in cc
@@ -34,7 +34,7 @@ span-order o span lo hi is none =
 
 -- ---- a job line
 
-module _ (table : Table) (r : Reading) (number lo hi : ℕ) (mark : Mark) where
+module _ (table : Table) (r : Progress) (number lo hi : ℕ) (mark : Mark) where
   abbrev told : Option Clause
   told = first_broken (job_checks table r number (record { lo = lo; hi = hi }) mark)
 
@@ -74,11 +74,11 @@ verdict-passes b is = rw is refl
 
 -- ---- an edge line
 
-pub edge-offer-is : (h : HeldReading) → edge_offer h ≡ slice_get (offers h.table h.reading.before) h.reading.edges
+pub edge-offer-is : (h : HeldProgress) → edge_offer h ≡ slice_get (offers h.table h.progress.before) h.progress.edges
 unfolding edge_offer
 edge-offer-is h = refl
 
-pub edge-offer-at : (h : HeldReading) → edge_offer h ≡ offer_at (record { table = h.table; cores = h.cores; level = h.reading.before; passed = h.reading.edges })
+pub edge-offer-at : (h : HeldProgress) → edge_offer h ≡ offer_at (record { table = h.table; cores = h.cores; level = h.progress.before; passed = h.progress.edges })
 unfolding edge_offer offer_at
 edge-offer-at h = refl
 
@@ -96,12 +96,12 @@ none-told : (o : Option Offer) → None ≡ option_map turn_of o → o ≡ None
 none-told None e = refl
 none-told (Some x) e = absurd (cc)
 
-module _ (h : HeldReading) (from job est lst to : ℕ) where
+module _ (h : HeldProgress) (from job est lst to : ℕ) where
   abbrev edge-told : Option Offer → Option Clause
-  edge-told o = first_broken (edge_checks h.reading.states o from job est lst to)
+  edge-told o = first_broken (edge_checks h.progress.states o from job est lst to)
 
   abbrev walk : HeldTurns
-  walk = record { table = h.table; cores = h.cores; level = h.reading.before; passed = h.reading.edges }
+  walk = record { table = h.table; cores = h.cores; level = h.progress.before; passed = h.progress.edges }
 
   pub edge-none : None ≡ option_map turn_of (offer_at walk) → Some K6 ≡ edge-told (edge_offer h)
   edge-none none = ap edge-told (sym (edge-offer-at h ∙ none-told (offer_at walk) none))
@@ -133,15 +133,15 @@ module _ (h : HeldReading) (from job est lst to : ℕ) where
         same-offer-window : (est == there.offer.window.est) && (lst == there.offer.window.lst) ≡ true
         same-offer-window = subst (λ (t : Turn). (est == t.window.est) && (lst == t.window.lst) ≡ true) there.named same_window
 
-        pub edge-k8-none : slice_get h.reading.states to ≡ None → Some K8 ≡ edge-told (edge_offer h)
+        pub edge-k8-none : slice_get h.progress.states to ≡ None → Some K8 ≡ edge-told (edge_offer h)
         edge-k8-none none = by-offer (Some K8) (rw (same-offer, same-offer-window, none) refl)
 
         -- what the walk says of the state
         pub walk-says : (s : SystemState) (b : Bool) → IfSome (offer_at walk) (λ offer. b ≡ widens s offer.next) → widens s there.offer.next ≡ b
         walk-says s b says = sym (subst (λ o. IfSome o (λ offer. b ≡ widens s offer.next)) there.is says)
 
-        pub edge-k8 : (s : SystemState) → slice_get h.reading.states to ≡ Some s → widens s there.offer.next ≡ false → Some K8 ≡ edge-told (edge_offer h)
+        pub edge-k8 : (s : SystemState) → slice_get h.progress.states to ≡ Some s → widens s there.offer.next ≡ false → Some K8 ≡ edge-told (edge_offer h)
         edge-k8 s is narrow = by-offer (Some K8) (rw (same-offer, same-offer-window, is, narrow) refl)
 
-        pub edge-passes : (s : SystemState) → slice_get h.reading.states to ≡ Some s → widens s there.offer.next ≡ true → None ≡ edge-told (edge_offer h)
+        pub edge-passes : (s : SystemState) → slice_get h.progress.states to ≡ Some s → widens s there.offer.next ≡ true → None ≡ edge-told (edge_offer h)
         edge-passes s is wide = by-offer None (rw (same-offer, same-offer-window, is, wide) refl)

@@ -12,9 +12,7 @@ use Rattle.sag_time.specs.Interval.{Interval}
 use Rattle.start_windows.specs.Ends.{is_above}
 use Rattle.cert_text.specs.declared.line.EndOf.{EndOf}
 use Rattle.graph_check.specs.Comings.{AreEnds, ends_of_line}
-
-true-is-no-false : true ≡ false → ⊥
-true-is-no-false e = cc
+use Rattle.lists.proofs.Orderings.{true≢false}
 
 -- ---- a test of each element
 
@@ -70,7 +68,7 @@ module _ (size : ℕ) (list : List EndOf) (i : ℕ) (within : i < length list) w
   pub bad-order : is_above here.job (ends_of_line (take i list)) ≡ false → ¬ AreEnds size (ends_of_line list)
   bad-order low ends =
       let above = subst (λ xs. is_above here.job xs ≡ true) (take-ends i list) (above-at (ends_of_line list) i (item here) ends.rising there) in
-      true-is-no-false (sym above ∙ low)
+      true≢false (sym above ∙ low)
 
   pub ends-more : ends_of_line (take (i + 1) list) ≡ ends_of_line (take i list) ++ (here.job, record { lo = here.lo; hi = here.hi }) ∷ []
   ends-more = map_more item list i no_end within

@@ -5,7 +5,7 @@ use Rattle.std.specs.List.{cons_option, enumerate_from, filter_map, flat_map, Al
 use Rattle.std.specs.Option.{option_map, option_map_or}
 use Rattle.std.proofs.lemmas.List.{length-map}
 use Rattle.std.proofs.lemmas.Option.{slice_get_past, slice_get_read, slice_get_within, slice_get-map, same_Some}
-use Rattle.job_model.specs.Numbers.{numbers_below}
+use Rattle.lists.specs.Numbers.{numbers_below}
 use Rattle.job_model.specs.Table.{Table}
 use Rattle.start_windows.specs.declared.StartWindow.{StartWindow}
 use Rattle.start_windows.specs.Eligible.{eligible_windows}
@@ -13,9 +13,10 @@ use Rattle.sag_step.specs.State.{SystemState, HeldState, first_core, state_windo
 use Rattle.sag_step.specs.Next.{next}
 use Rattle.sag_step.specs.Shape.{IsState}
 use Rattle.sag_step.specs.Widen.{widens}
-use Rattle.sag_step.specs.Group.{Offer, offers, offers_of}
+use Rattle.sag_step.specs.Offers.{Offer, offers, offers_of}
 use Rattle.start_windows.proofs.WindowFacts.{IsWindow-from}
 use Rattle.graph_check.specs.Turns.{IsFit, IsStart, AreFit, HeldTurns, StandsAt, offer_at, offer_by, offers_from, offers_left, states_of, turn_of, windows_at}
+use Rattle.lists.proofs.Elements.{drop-at}
 
 -- ---- places of lists
 
@@ -33,11 +34,6 @@ head-drop : {A : Type 0} (xs : List A) (k : ℕ) → slice_get xs k ≡ slice_ge
 head-drop [] k = rw (drop-nil k) refl
 head-drop (x ∷ xs) zero = refl
 head-drop (x ∷ xs) (suc k) = head-drop xs k
-
-drop-at : {A : Type 0} (xs : List A) (k : ℕ) (x : A) → slice_get xs k ≡ Some x → drop k xs ≡ x ∷ drop (suc k) xs
-drop-at [] k x e = absurd (cc)
-drop-at (y ∷ xs) zero x e = cc
-drop-at (y ∷ xs) (suc k) x e = drop-at xs k x e
 
 nil-cons : {A : Type 0} {x : A} {xs : List A} → [] ≡ x ∷ xs → ⊥
 nil-cons e = cc

@@ -7,8 +7,8 @@ use Rattle.cert_text.specs.declared.line.EndOf.{EndOf}
 use Rattle.cert_text.specs.declared.line.Mark.TheVariants as mark
 use Rattle.cert_text.specs.declared.line.CertLine.{CertLine}
 use Rattle.cert_text.specs.declared.line.CertLine.TheVariants as line
-use Rattle.graph_check.specs.declared.reading.Clause.{Clause}
-use Rattle.graph_check.specs.declared.reading.Clause.TheVariants.{K1, K2, K3, K4, K5, K6, K7, K8, K9, K10, K11}
+use Rattle.graph_check.specs.declared.clause.Clause.{Clause}
+use Rattle.graph_check.specs.declared.clause.Clause.TheVariants.{K1, K2, K3, K4, K5, K6, K7, K8, K9, K10, K11}
 use Rattle.graph_check.specs.Kept.{Failure, first_failure}
 
 abbrev pair : ℕ → ℕ → Pair
@@ -30,12 +30,12 @@ cert_a =
     ∷ line.Level 0 1
     ∷ line.Root (pair 0 0 ∷ [])
     ∷ line.Level 1 2
-    ∷ line.State 0 0 (pair 1 2 ∷ []) []
-    ∷ line.State 0 1 (pair 2 3 ∷ []) []
+    ∷ line.State 0 0 (pair 1 2 ∷ []) [] []
+    ∷ line.State 0 1 (pair 2 3 ∷ []) [] []
     ∷ line.Edge 0 0 0 0 0
     ∷ line.Edge 0 1 0 0 1
     ∷ line.Level 2 1
-    ∷ line.State 0 1 (pair 3 5 ∷ []) []
+    ∷ line.State 0 1 (pair 3 5 ∷ []) [] []
     ∷ line.Edge 0 1 1 2 0
     ∷ line.Edge 1 0 2 3 0
     ∷ line.Job 0 1 5 mark.Ok
@@ -53,13 +53,13 @@ cert_b =
     ∷ line.Level 0 1
     ∷ line.Root (pair 0 0 ∷ pair 0 0 ∷ [])
     ∷ line.Level 1 1
-    ∷ line.State 0 0 (pair 0 0 ∷ pair 2 4 ∷ []) (tracked 0 2 4 ∷ [])
+    ∷ line.State 0 0 (pair 0 0 ∷ pair 2 4 ∷ []) (tracked 0 2 4 ∷ []) (0 ∷ [])
     ∷ line.Edge 0 0 0 0 0
     ∷ line.Level 2 1
-    ∷ line.State 0 1 (pair 1 1 ∷ pair 2 4 ∷ []) (tracked 0 2 4 ∷ [])
+    ∷ line.State 0 1 (pair 1 1 ∷ pair 2 4 ∷ []) (tracked 0 2 4 ∷ []) (0 ∷ [])
     ∷ line.Edge 0 1 0 0 0
     ∷ line.Level 3 1
-    ∷ line.State 0 2 (pair 2 4 ∷ pair 3 6 ∷ []) []
+    ∷ line.State 0 2 (pair 2 4 ∷ pair 3 6 ∷ []) [] []
     ∷ line.Edge 0 2 2 4 0
     ∷ line.Job 0 2 4 mark.Ok
     ∷ line.Job 1 1 1 mark.Ok
@@ -70,6 +70,26 @@ cert_b =
 b_passes : first_failure table_b 2 cert_b ≡ None
 b_passes = refl
 
+-- the same with other last jobs in the first state line
+abbrev b_with : List ℕ → Option Failure
+b_with last =
+    first_failure table_b 2
+    (take 4 cert_b ++ line.State 0 0 (pair 0 0 ∷ pair 2 4 ∷ []) (tracked 0 2 4 ∷ []) last ∷ drop 5 cert_b)
+
+-- job 0 is last on its core again where it was not before
+no_last : b_with [] ≡ at_line K8 9
+no_last = refl
+
+-- job 1 is not dispatched, the table has no job 3, and numbers rise
+other_last : b_with (1 ∷ []) ≡ at_line K5 5
+other_last = refl
+
+past_last : b_with (3 ∷ []) ≡ at_line K5 5
+past_last = refl
+
+twice_last : b_with (0 ∷ 0 ∷ []) ≡ at_line K5 5
+twice_last = refl
+
 -- two states that merge
 abbrev cert_c : List CertLine
 cert_c =
@@ -77,12 +97,12 @@ cert_c =
     ∷ line.Level 0 1
     ∷ line.Root (pair 0 0 ∷ [])
     ∷ line.Level 1 2
-    ∷ line.State 0 0 (pair 1 5 ∷ []) []
-    ∷ line.State 0 1 (pair 6 6 ∷ []) []
+    ∷ line.State 0 0 (pair 1 5 ∷ []) [] []
+    ∷ line.State 0 1 (pair 6 6 ∷ []) [] []
     ∷ line.Edge 0 0 0 4 0
     ∷ line.Edge 0 1 5 5 1
     ∷ line.Level 2 1
-    ∷ line.State 0 1 (pair 6 11 ∷ []) []
+    ∷ line.State 0 1 (pair 6 11 ∷ []) [] []
     ∷ line.Edge 0 1 5 5 0
     ∷ line.Edge 1 0 6 10 0
     ∷ line.Job 0 1 11 mark.Ok
@@ -100,19 +120,19 @@ cert_d =
     ∷ line.Level 0 1
     ∷ line.Root (pair 0 0 ∷ pair 0 0 ∷ [])
     ∷ line.Level 1 2
-    ∷ line.State 0 0 (pair 0 0 ∷ pair 10 10 ∷ []) []
-    ∷ line.State 0 1 (pair 0 0 ∷ pair 3 3 ∷ []) []
+    ∷ line.State 0 0 (pair 0 0 ∷ pair 10 10 ∷ []) [] []
+    ∷ line.State 0 1 (pair 0 0 ∷ pair 3 3 ∷ []) [] []
     ∷ line.Edge 0 0 0 0 0
     ∷ line.Edge 0 1 0 0 1
     ∷ line.Level 2 2
-    ∷ line.State 0 1 (pair 3 3 ∷ pair 10 10 ∷ []) []
-    ∷ line.State 1 2 (pair 3 3 ∷ pair 4 4 ∷ []) []
+    ∷ line.State 0 1 (pair 3 3 ∷ pair 10 10 ∷ []) [] []
+    ∷ line.State 1 2 (pair 3 3 ∷ pair 4 4 ∷ []) [] []
     ∷ line.Edge 0 1 0 0 0
     ∷ line.Edge 1 0 0 0 0
     ∷ line.Edge 1 2 0 0 1
     ∷ line.Level 3 2
-    ∷ line.State 0 2 (pair 7 7 ∷ pair 10 10 ∷ []) []
-    ∷ line.State 1 0 (pair 4 4 ∷ pair 13 15 ∷ []) []
+    ∷ line.State 0 2 (pair 7 7 ∷ pair 10 10 ∷ []) [] []
+    ∷ line.State 1 0 (pair 4 4 ∷ pair 13 15 ∷ []) [] []
     ∷ line.Edge 0 2 3 3 0
     ∷ line.Edge 1 0 3 5 1
     ∷ line.Job 0 10 15 mark.Ok
@@ -155,19 +175,19 @@ k3_line_2 = refl
 k3_line_3 : failure_with 3 (line.Root (pair 1 1 ∷ []) ∷ []) ≡ at_line K3 3
 k3_line_3 = refl
 
-k4_line_6 : failure_with 6 (line.State 1 1 (pair 2 3 ∷ []) [] ∷ []) ≡ at_line K4 6
+k4_line_6 : failure_with 6 (line.State 1 1 (pair 2 3 ∷ []) [] [] ∷ []) ≡ at_line K4 6
 k4_line_6 = refl
 
-k4_line_10 : failure_with 10 (line.State 0 0 (pair 3 5 ∷ []) [] ∷ []) ≡ at_line K4 10
+k4_line_10 : failure_with 10 (line.State 0 0 (pair 3 5 ∷ []) [] [] ∷ []) ≡ at_line K4 10
 k4_line_10 = refl
 
-k5_line_5 : failure_with 5 (line.State 0 0 (pair 2 1 ∷ []) [] ∷ []) ≡ at_line K5 5
+k5_line_5 : failure_with 5 (line.State 0 0 (pair 2 1 ∷ []) [] [] ∷ []) ≡ at_line K5 5
 k5_line_5 = refl
 
 k5_line_3 : failure_with 3 (line.Root (pair 0 0 ∷ pair 0 0 ∷ []) ∷ []) ≡ at_line K5 3
 k5_line_3 = refl
 
-k5_line_6 : failure_with 6 (line.State 0 1 (pair 2 3 ∷ []) (tracked 1 2 3 ∷ []) ∷ []) ≡ at_line K5 6
+k5_line_6 : failure_with 6 (line.State 0 1 (pair 2 3 ∷ []) (tracked 1 2 3 ∷ []) [] ∷ []) ≡ at_line K5 6
 k5_line_6 = refl
 
 k6_line_8 : failure_with 8 [] ≡ at_line K6 8
@@ -179,13 +199,13 @@ k6_line_9 = refl
 k7_line_8 : failure_with 8 (line.Edge 0 1 0 1 1 ∷ []) ≡ at_line K7 8
 k7_line_8 = refl
 
-k8_line_11 : failure_with 10 (line.State 0 1 (pair 3 4 ∷ []) [] ∷ []) ≡ at_line K8 11
+k8_line_11 : failure_with 10 (line.State 0 1 (pair 3 4 ∷ []) [] [] ∷ []) ≡ at_line K8 11
 k8_line_11 = refl
 
 k8_line_8 : failure_with 8 (line.Edge 0 1 0 0 2 ∷ []) ≡ at_line K8 8
 k8_line_8 = refl
 
-k8_line_8_2 : failure_with 6 (line.State 0 0 (pair 2 3 ∷ []) [] ∷ []) ≡ at_line K8 8
+k8_line_8_2 : failure_with 6 (line.State 0 0 (pair 2 3 ∷ []) [] [] ∷ []) ≡ at_line K8 8
 k8_line_8_2 = refl
 
 k9_line_13 : failure_with 13 (line.Job 0 1 4 mark.Ok ∷ []) ≡ at_line K9 13
@@ -211,8 +231,8 @@ failure_behind count lines = first_failure table_a 1 (take count cert_a ++ lines
 
 -- wider states and a wider interval are as good
 wider : first_failure table_a 1
-    (take 4 cert_a ++ line.State 0 0 (pair 1 3 ∷ []) [] ∷ take 4 (drop 5 cert_a)
-    ++ line.State 0 1 (pair 3 6 ∷ []) [] ∷ line.Edge 0 1 1 3 0 ∷ line.Edge 1 0 2 3 0 ∷ line.Job 0 1 5 mark.Ok ∷ line.Job 1 2 6 mark.Ok ∷ drop 14 cert_a)
+    (take 4 cert_a ++ line.State 0 0 (pair 1 3 ∷ []) [] [] ∷ take 4 (drop 5 cert_a)
+    ++ line.State 0 1 (pair 3 6 ∷ []) [] [] ∷ line.Edge 0 1 1 3 0 ∷ line.Edge 1 0 2 3 0 ∷ line.Job 0 1 5 mark.Ok ∷ line.Job 1 2 6 mark.Ok ∷ drop 14 cert_a)
     ≡ None
 wider = refl
 
@@ -238,7 +258,7 @@ edge_behind_root = refl
 level_without_states : failure_behind 3 (line.Level 1 0 ∷ line.Edge 0 0 0 0 0 ∷ []) ≡ at_line K8 5
 level_without_states = refl
 
-no_such_job : failure_behind 4 (line.State 0 2 (pair 1 2 ∷ []) [] ∷ []) ≡ at_line K4 5
+no_such_job : failure_behind 4 (line.State 0 2 (pair 1 2 ∷ []) [] [] ∷ []) ≡ at_line K4 5
 no_such_job = refl
 
 edge_before_states : failure_behind 5 (line.Edge 0 0 0 0 0 ∷ []) ≡ at_line K2 6
@@ -247,7 +267,7 @@ edge_before_states = refl
 head_for_edge : failure_behind 6 (line.Head 2 1 ∷ []) ≡ at_line K6 7
 head_for_edge = refl
 
-state_for_edge : failure_behind 6 (line.State 0 1 (pair 2 3 ∷ []) [] ∷ []) ≡ at_line K6 7
+state_for_edge : failure_behind 6 (line.State 0 1 (pair 2 3 ∷ []) [] [] ∷ []) ≡ at_line K6 7
 state_for_edge = refl
 
 end_for_edge : failure_behind 7 (line.End ∷ []) ≡ at_line K6 8

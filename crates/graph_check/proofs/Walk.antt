@@ -4,46 +4,46 @@ use Rattle.std.specs.Prelude.{slice_get}
 use Rattle.std.specs.List.{list_all}
 use Rattle.std.proofs.lemmas.List.{length_push}
 use Rattle.job_model.specs.Table.{Table}
-use Rattle.sag_step.specs.Group.{Offer, offers}
+use Rattle.sag_step.specs.Offers.{Offer, offers}
 use Rattle.cert_text.specs.declared.line.Mark.{Mark}
 use Rattle.cert_text.specs.declared.line.CertLine.{CertLine}
 use Rattle.cert_text.specs.declared.line.CertLine.TheVariants as line
-use Rattle.graph_check.specs.declared.reading.Due.TheVariants as due
+use Rattle.graph_check.specs.declared.due.Due.TheVariants as due
 use Rattle.graph_check.specs.Entries.{JobEntry, is_ok_mark}
 use Rattle.graph_check.specs.Certificate.{StateEntry, EdgeEntry, Block, state_line, edge_line, job_line}
-use Rattle.graph_check.specs.Reading.{Reading}
-use Rattle.graph_check.proofs.Lists.{element, cons-parts, zip-some, zip-none}
+use Rattle.graph_check.specs.Progress.{Progress}
+use Rattle.lists.proofs.Elements.{element, cons-parts, zip-some, zip-none}
 use Rattle.graph_check.proofs.Steps.{Leaves, leaves-from_step, leaves-from_line, leaves-after_line, passes-first}
-use Rattle.graph_check.proofs.Facts.{with_state, with_edge, with_level, with_job, with_verdict, with_end, NamesState, FitsOffer, IsFitJob, state_passes, edge_passes, level_passes, job_passes, verdict_passes, end_passes, state-passed, edge-passed, level-passed, job-passed, verdict-passed, end-passed, nothing-passes}
+use Rattle.graph_check.proofs.PassedLines.{with_state, with_edge, with_level, with_job, with_verdict, with_end, NamesState, FitsOffer, IsFitJob, state_passes, edge_passes, level_passes, job_passes, verdict_passes, end_passes, state-passed, edge-passed, level-passed, job-passed, verdict-passed, end-passed, nothing-passes}
 use Rattle.graph_check.proofs.Stages.{IsConsistent, IsBehindEdges, IsBehindLevels, Stage, stage, due-states, due-edges, due-level, due-job, due-verdict, state_consistent, edge_consistent, level_consistent, job_consistent}
 use Rattle.graph_check.proofs.Stages.Stage.{InStates, InEdges, AtLevel, InJobs, AtVerdict}
-use Rattle.graph_check.proofs.Rest.{part_lines, block-first, some_lines, Completes, Rest, state_done, edge_done, level_done, job_done, all_done, state_to_come, edge_to_come, level_to_come, job_to_come, verdict_to_come}
+use Rattle.graph_check.proofs.LinesLeft.{part_lines, block-first, some_lines, Completes, Rest, state_done, edge_done, level_done, job_done, all_done, state_to_come, edge_to_come, level_to_come, job_to_come, verdict_to_come}
 
 module _ (table : Table) (m : ℕ) where
   -- nothing is due, and these jobs are kept
-  abbrev pub Ended : List JobEntry → Reading → Type 0
+  abbrev pub Ended : List JobEntry → Progress → Type 0
   Ended jobs q = (q.due ≡ due.Nothing) × (q.jobs ≡ jobs)
 
-  last_lines : (r : Reading) (verdict : Mark) → r.due ≡ due.Verdict → is_ok_mark verdict ≡ list_all (λ s. is_ok_mark s.mark) r.jobs →
+  last_lines : (r : Progress) (verdict : Mark) → r.due ≡ due.Verdict → is_ok_mark verdict ≡ list_all (λ s. is_ok_mark s.mark) r.jobs →
       Leaves table m (Ended r.jobs) r (line.Verdict verdict ∷ line.End ∷ [])
   last_lines r verdict verdict_due is =
       let next = with_verdict table m r in
       leaves-from_step table m (Ended r.jobs) r next (line.Verdict verdict) (line.End ∷ []) (verdict_passes table m r verdict verdict_due is)
       (leaves-from_step table m (Ended r.jobs) next (with_end table m next) line.End [] (end_passes table m next refl) (refl, refl))
 
-  behind-edges : (r : Reading) (blocks : List Block) (spans : List JobEntry) (verdict : Mark) → Completes table m r [] [] blocks spans verdict → IsBehindEdges table r
+  behind-edges : (r : Progress) (blocks : List Block) (spans : List JobEntry) (verdict : Mark) → Completes table m r [] [] blocks spans verdict → IsBehindEdges table r
   behind-edges r blocks spans verdict c = record {
     states = omega (arith, c.count);
     edges = zip-none (FitsOffer table m (r.states ++ [])) (offers table r.before) r.edges c.follow.0;
   }
 
-  behind-levels : (r : Reading) (spans : List JobEntry) (verdict : Mark) → Completes table m r [] [] [] spans verdict → IsBehindLevels table r
+  behind-levels : (r : Progress) (spans : List JobEntry) (verdict : Mark) → Completes table m r [] [] [] spans verdict → IsBehindLevels table r
   behind-levels r spans verdict c =
       let edges = behind-edges r [] spans verdict c in
       record { states = edges.states; edges = edges.edges; levels = omega (arith, c.levels) }
 
   -- The rest of a certificate passes.
-  pub ends : (lines : List CertLine) (r : Reading) (states : List StateEntry) (edges : List EdgeEntry) (blocks : List Block) (spans : List JobEntry) (verdict : Mark) →
+  pub ends : (lines : List CertLine) (r : Progress) (states : List StateEntry) (edges : List EdgeEntry) (blocks : List Block) (spans : List JobEntry) (verdict : Mark) →
       IsConsistent table r → lines ≡ part_lines r.level (length r.jobs) states edges blocks spans verdict → Completes table m r states edges blocks spans verdict →
       Leaves table m (Ended (r.jobs ++ spans)) r lines
   ends [] r states edges blocks spans verdict ok are c = absurd (some_lines r.level (length r.jobs) states edges blocks spans verdict are)
@@ -96,10 +96,10 @@ module _ (table : Table) (m : ℕ) where
   -- ---- and what passes is the rest of a certificate
 
   -- no line is due
-  abbrev pub IsOver : Reading → Type 0
+  abbrev pub IsOver : Progress → Type 0
   IsOver q = q.due ≡ due.Nothing
 
-  state_back : (r : Reading) (e : StateEntry) (l : CertLine) (ls : List CertLine) → l ≡ state_line e → NamesState table m r.before e →
+  state_back : (r : Progress) (e : StateEntry) (l : CertLine) (ls : List CertLine) → l ≡ state_line e → NamesState table m r.before e →
       Rest table m (with_state table r e) ls → Rest table m r (l ∷ ls)
   state_back r e l ls l_is names later = record {
     states = e ∷ later.states;
@@ -111,7 +111,7 @@ module _ (table : Table) (m : ℕ) where
     completes = state_to_come table m r e later.states later.edges later.blocks later.spans later.verdict names later.completes;
   }
 
-  edge_back : (r : Reading) (o : Offer) (e : EdgeEntry) (l : CertLine) (ls : List CertLine) → r.count ≤ length r.states → slice_get (offers table r.before) r.edges ≡ Some o →
+  edge_back : (r : Progress) (o : Offer) (e : EdgeEntry) (l : CertLine) (ls : List CertLine) → r.count ≤ length r.states → slice_get (offers table r.before) r.edges ≡ Some o →
       l ≡ edge_line e → FitsOffer table m r.states e o → Rest table m (with_edge table r e) ls → Rest table m r (l ∷ ls)
   edge_back r o e l ls full is l_is fits later = at later.states later.lines_are later.completes
     where
@@ -128,7 +128,7 @@ module _ (table : Table) (m : ℕ) where
       }
       at (x ∷ xs) are c = absurd (omega (arith, full, c.count))
 
-  level_back : (r : Reading) (count : ℕ) (l : CertLine) (ls : List CertLine) → IsConsistent table r → IsBehindEdges table r → l ≡ line.Level (r.level + 1) count →
+  level_back : (r : Progress) (count : ℕ) (l : CertLine) (ls : List CertLine) → IsConsistent table r → IsBehindEdges table r → l ≡ line.Level (r.level + 1) count →
       Rest table m (with_level table r count) ls → Rest table m r (l ∷ ls)
   level_back r count l ls ok behind l_is later =
       let b : Block = record { states = later.states; edges = later.edges } in
@@ -146,7 +146,7 @@ module _ (table : Table) (m : ℕ) where
         completes = level_to_come table m r b later.blocks later.spans later.verdict full behind.edges c;
       }
 
-  job_back : (r : Reading) (s : JobEntry) (l : CertLine) (ls : List CertLine) → IsBehindLevels table r → l ≡ job_line (length r.jobs, s) →
+  job_back : (r : Progress) (s : JobEntry) (l : CertLine) (ls : List CertLine) → IsBehindLevels table r → l ≡ job_line (length r.jobs, s) →
       IsFitJob table m r.hulls (length r.jobs, s) →
       Rest table m (with_job table r s) ls → Rest table m r (l ∷ ls)
   job_back r s l ls behind l_is fit later = at later.states later.edges later.blocks later.lines_are later.completes
@@ -173,7 +173,7 @@ module _ (table : Table) (m : ℕ) where
       at (x ∷ xs) edges blocks are c = absurd (omega (arith, behind.states, c.count))
 
   -- behind the verdict the end line comes, and no other
-  verdict_back : (r : Reading) (verdict : Mark) (l : CertLine) (ls : List CertLine) → IsConsistent table r → IsBehindLevels table r → length table.jobs ≤ length r.jobs →
+  verdict_back : (r : Progress) (verdict : Mark) (l : CertLine) (ls : List CertLine) → IsConsistent table r → IsBehindLevels table r → length table.jobs ≤ length r.jobs →
       l ≡ line.Verdict verdict →
       is_ok_mark verdict ≡ list_all (λ s. is_ok_mark s.mark) r.jobs → ls ≡ line.End ∷ [] → Rest table m r (l ∷ ls)
   verdict_back r verdict l ls ok behind all l_is is ls_are =
@@ -190,12 +190,12 @@ module _ (table : Table) (m : ℕ) where
         completes = verdict_to_come table m r verdict full behind.edges levels jobs is;
       }
 
-  nothing_behind : (r : Reading) (lines : List CertLine) → r.due ≡ due.Nothing → Leaves table m IsOver r lines → lines ≡ []
+  nothing_behind : (r : Progress) (lines : List CertLine) → r.due ≡ due.Nothing → Leaves table m IsOver r lines → lines ≡ []
   nothing_behind r [] nothing leaves = refl
   nothing_behind r (l ∷ ls) nothing leaves =
       absurd (nothing-passes table m r l (rw nothing at (passes-first table m IsOver r l ls leaves)))
 
-  only_end : (r : Reading) (lines : List CertLine) → r.due ≡ due.End → Leaves table m IsOver r lines → lines ≡ line.End ∷ []
+  only_end : (r : Progress) (lines : List CertLine) → r.due ≡ due.End → Leaves table m IsOver r lines → lines ≡ line.End ∷ []
   only_end r [] end_due leaves = cc (end_due, leaves)
   only_end r (l ∷ ls) end_due leaves =
       let l_is : l ≡ line.End = end-passed table m r l (rw end_due at (passes-first table m IsOver r l ls leaves)) in
@@ -204,15 +204,15 @@ module _ (table : Table) (m : ℕ) where
       let ls_are : ls ≡ [] = nothing_behind next ls refl later in
       λ i. l_is i ∷ ls_are i
 
-  some_due : (r : Reading) → Stage table r → r.due ≡ due.Nothing → ⊥
+  some_due : (r : Progress) → Stage table r → r.due ≡ due.Nothing → ⊥
   some_due r (InStates is more) over = cc (is, over)
   some_due r (InEdges is states more) over = cc (is, over)
   some_due r (AtLevel is behind more) over = cc (is, over)
   some_due r (InJobs is behind more) over = cc (is, over)
   some_due r (AtVerdict is behind all) over = cc (is, over)
 
-  first_back : (r : Reading) (l : CertLine) (ls : List CertLine) → IsConsistent table r → Stage table r →
-      ((next : Reading) → IsConsistent table next → Leaves table m IsOver next ls → Rest table m next ls) → Leaves table m IsOver r (l ∷ ls) → Rest table m r (l ∷ ls)
+  first_back : (r : Progress) (l : CertLine) (ls : List CertLine) → IsConsistent table r → Stage table r →
+      ((next : Progress) → IsConsistent table next → Leaves table m IsOver next ls → Rest table m next ls) → Leaves table m IsOver r (l ∷ ls) → Rest table m r (l ∷ ls)
   first_back r l ls ok (InStates is more) later leaves =
       let got = state-passed table m r l (rw is at (passes-first table m IsOver r l ls leaves)) in
       let next = with_state table r got.0 in
@@ -241,6 +241,6 @@ module _ (table : Table) (m : ℕ) where
       verdict_back r got.0 l ls ok levels all got.1 got.2 (only_end next ls refl behind)
 
   -- What passes to the end is the rest of a certificate.
-  pub rest : (lines : List CertLine) (r : Reading) → IsConsistent table r → Leaves table m IsOver r lines → Rest table m r lines
+  pub rest : (lines : List CertLine) (r : Progress) → IsConsistent table r → Leaves table m IsOver r lines → Rest table m r lines
   rest [] r ok leaves = absurd (some_due r (stage table r ok) leaves)
   rest (l ∷ ls) r ok leaves = first_back r l ls ok (stage table r ok) (rest ls) leaves

@@ -10,35 +10,35 @@ use Rattle.cert_text.specs.declared.line.Pair.{Pair}
 use Rattle.cert_text.specs.declared.line.Mark.{Mark}
 use Rattle.cert_text.specs.declared.line.CertLine.{CertLine}
 use Rattle.cert_text.specs.declared.line.CertLine.TheVariants as line
-use Rattle.graph_check.specs.declared.reading.Due.TheVariants as due
+use Rattle.graph_check.specs.declared.due.Due.TheVariants as due
 use Rattle.graph_check.specs.Entries.{root_from, JobEntry}
 use Rattle.graph_check.specs.Certificate.{StateEntry, EdgeEntry, Block, Certificate, lines_of, all_edges}
 use Rattle.graph_check.specs.Valid.{KeepsClauses, Valid}
-use Rattle.graph_check.specs.Reading.{Reading, start, due_in_level}
+use Rattle.graph_check.specs.Progress.{Progress, before_first_line, due_in_level}
 use Rattle.graph_check.specs.Checks.{first_broken, due_checks}
-use Rattle.graph_check.specs.Kept.{Failure, step, kept}
+use Rattle.graph_check.specs.Kept.{Failure, with_line, kept}
 use Rattle.graph_check.specs.Laws as law
 use Rattle.sag_step.proofs.ShapeTest.{has_shape-from, HasShape-from_test}
 use Rattle.graph_check.proofs.Steps.{Leaves, leaves-from_step, leaves-after_line, passes-first}
-use Rattle.graph_check.proofs.Facts.{passes-each}
+use Rattle.graph_check.proofs.PassedLines.{passes-each}
 use Rattle.graph_check.proofs.Stages.{IsConsistent}
-use Rattle.graph_check.proofs.Rest.{part_lines, Completes}
+use Rattle.graph_check.proofs.LinesLeft.{part_lines, Completes}
 use Rattle.graph_check.proofs.Walk.{Ended, IsOver, ends, rest}
-use Rattle.graph_check.proofs.Judged.{valid-from_right, right-from_valid, edges-in_range, in_order-from_fit, marks-from_fit, in_spans-from_fit, fit-from_spans}
+use Rattle.graph_check.proofs.RightBlocks.{valid-from_right, right-from_valid, edges-in_range, in_order-from_fit, marks-from_fit, in_spans-from_fit, fit-from_spans}
 
 module _ (table : Table) (m : ℕ) where
   -- ---- the first three lines
 
-  abbrev headed : Reading
-  headed = record (start table) { lines = 1; due = due.Level }
+  abbrev headed : Progress
+  headed = record (before_first_line table) { lines = 1; due = due.Level }
 
-  abbrev levelled : Reading
+  abbrev levelled : Progress
   levelled = record headed { lines = 2; due = due.Root; count = 1 }
 
-  abbrev unsettled : List Pair → Reading
+  abbrev unsettled : List Pair → Progress
   unsettled pairs = record levelled { lines = 3; states = root_from table pairs ∷ [] }
 
-  abbrev entered : List Pair → Reading
+  abbrev entered : List Pair → Progress
   entered pairs = record (unsettled pairs) { due = due_in_level table (unsettled pairs) }
 
   entered_consistent : (pairs : List Pair) → IsConsistent table (entered pairs)
@@ -51,24 +51,24 @@ module _ (table : Table) (m : ℕ) where
     jobs_in = omega arith;
   }
 
-  head_passes : (jobs cores : ℕ) → jobs ≡ length table.jobs → cores ≡ m → step table m (Ok (start table)) (line.Head jobs cores) ≡ Ok headed
+  head_passes : (jobs cores : ℕ) → jobs ≡ length table.jobs → cores ≡ m → with_line table m (Ok (before_first_line table)) (line.Head jobs cores) ≡ Ok headed
   head_passes jobs cores jobs_are cores_are =
       let one = eq-eqb jobs (length table.jobs) jobs_are in
       let two = eq-eqb cores m cores_are in
       rw (one, two) refl
 
-  level_0_passes : step table m (Ok headed) (line.Level 0 1) ≡ Ok levelled
+  level_0_passes : with_line table m (Ok headed) (line.Level 0 1) ≡ Ok levelled
   level_0_passes = refl
 
   root_passes : (pairs : List Pair) → HasShape table m (root_from table pairs) → IsTrue (widens (root_from table pairs) (root table m)) →
-      step table m (Ok levelled) (line.Root pairs) ≡ Ok (entered pairs)
+      with_line table m (Ok levelled) (line.Root pairs) ≡ Ok (entered pairs)
   root_passes pairs shape wide =
       let shaped : has_shape table m (root_from table pairs) ≡ true = has_shape-from table m (root_from table pairs) shape in
       rw (shaped, wide) refl
 
-  head-passed : (l : CertLine) → first_broken (due_checks table m (start table) due.Head l) ≡ None → l ≡ line.Head (length table.jobs) m
+  head-passed : (l : CertLine) → first_broken (due_checks table m (before_first_line table) due.Head l) ≡ None → l ≡ line.Head (length table.jobs) m
   head-passed (line.Head jobs cores) passes =
-      let each = passes-each (due_checks table m (start table) due.Head (line.Head jobs cores)) passes in
+      let each = passes-each (due_checks table m (before_first_line table) due.Head (line.Head jobs cores)) passes in
       let parts = and_parts (nat_eq jobs (length table.jobs)) (nat_eq cores m) each.0 in
       let jobs_are : jobs ≡ length table.jobs = eqb-true jobs (length table.jobs) parts.0 in
       let cores_are : cores ≡ m = eqb-true cores m parts.1 in
@@ -117,17 +117,17 @@ module _ (table : Table) (m : ℕ) where
         verdict_is = keeps.verdict;
       }
 
-  pub leaves-from_keeps : (c : Certificate) → KeepsClauses table m c → Leaves table m (Ended table m c.spans) (start table) (lines_of c)
+  pub leaves-from_keeps : (c : Certificate) → KeepsClauses table m c → Leaves table m (Ended table m c.spans) (before_first_line table) (lines_of c)
   leaves-from_keeps c keeps =
       let P = Ended table m c.spans in
       let later = ends table m (more_lines c) (entered c.root) [] [] c.blocks c.spans c.verdict (entered_consistent c.root) refl (completes c keeps) in
       let behind_level = leaves-from_step table m P levelled (entered c.root) (line.Root c.root) (more_lines c) (root_passes c.root keeps.root_shape keeps.root_wide) later in
-      let one_root : step table m (Ok headed) (line.Level 0 c.root_count) ≡ Ok levelled = rw keeps.one_root level_0_passes in
+      let one_root : with_line table m (Ok headed) (line.Level 0 c.root_count) ≡ Ok levelled = rw keeps.one_root level_0_passes in
       let behind_head = leaves-from_step table m P headed levelled (line.Level 0 c.root_count) (line.Root c.root ∷ more_lines c) one_root behind_level in
       let behind = line.Level 0 c.root_count ∷ line.Root c.root ∷ more_lines c in
       let passes = head_passes c.jobs c.cores keeps.jobs keeps.cores in
-      let all = leaves-from_step table m P (start table) headed (line.Head c.jobs c.cores) behind passes behind_head in
-      subst (Leaves table m P (start table)) (sym (later_lines c)) all
+      let all = leaves-from_step table m P (before_first_line table) headed (line.Head c.jobs c.cores) behind passes behind_head in
+      subst (Leaves table m P (before_first_line table)) (sym (later_lines c)) all
 
   -- ---- and what passes is one
 
@@ -177,17 +177,17 @@ module _ (table : Table) (m : ℕ) where
           certified got.0 r.states r.edges r.blocks r.spans r.verdict (line.Head (length table.jobs) m ∷ line.Level 0 1 ∷ l ∷ ls) got.2 got.3
           (λ i. line.Head (length table.jobs) m ∷ line.Level 0 1 ∷ got.1 i ∷ r.lines_are i) r.completes
 
-  pub valid-from_leaves : (lines : List CertLine) → Leaves table m (IsOver table m) (start table) lines → Valid table m lines
+  pub valid-from_leaves : (lines : List CertLine) → Leaves table m (IsOver table m) (before_first_line table) lines → Valid table m lines
   valid-from_leaves [] leaves = cc
   valid-from_leaves (l ∷ ls) leaves =
-      let l_is = head-passed l (passes-first table m (IsOver table m) (start table) l ls leaves) in
+      let l_is = head-passed l (passes-first table m (IsOver table m) (before_first_line table) l ls leaves) in
       let passes = head_passes (length table.jobs) m refl refl in
-      let later = leaves-after_line table m (IsOver table m) (start table) headed l (line.Head (length table.jobs) m) ls l_is passes leaves in
+      let later = leaves-after_line table m (IsOver table m) (before_first_line table) headed l (line.Head (length table.jobs) m) ls l_is passes leaves in
       subst (λ k. Valid table m (k ∷ ls)) (sym l_is) (valid-from_headed ls later)
 
 -- ---- the laws
 
-ok-weaker : (P Q : Reading → Type 0) (k : Result Reading Failure) → ((r : Reading) → P r → Q r) → IsOkAnd k P → IsOkAnd k Q
+ok-weaker : (P Q : Progress → Type 0) (k : Result Progress Failure) → ((r : Progress) → P r → Q r) → IsOkAnd k P → IsOkAnd k Q
 ok-weaker P Q (Ok r) weaker p = weaker r p
 ok-weaker P Q (Err failure) weaker p = absurd p
 

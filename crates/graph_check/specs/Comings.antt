@@ -1,14 +1,14 @@
 -- What comes of a line.
 --     ends_of_line list             the ends that a line gives
 --     AreEnds size items            they rise, are of jobs below the size, and none ends before it begins
---     Gives table m state found     the state was found exactly where it has the shape of one
---     HeldReading                   a reading in memory
+--     FindsState table m state found     the state was found exactly where it has the shape of one
+--     HeldProgress                   a progress in memory
 --     due_for line                  when a line of this kind is due
 --     turn_clause r due kind        what a line of a kind breaks where another is due
---     Comes table m old line result new     the reading after a line, the clause that it breaks, or want of memory
+--     Comes table m old line result new     the progress after a line, the clause that it breaks, or want of memory
 --     edge_offer, has_candidate, child_members, IsChildSet      parts of an edge line and of a state line
---     StepsOn table m old line result new   the step of a reading in memory
---     with_due table r, at_level r number   the reading with the line due that its level says; at the beginning of a level
+--     StepsOn table m old line result new   the step of a progress in memory
+--     with_due table r, at_level r number   the progress with the line due that its level says; at the beginning of a level
 use Rattle.std.specs.Prelude.{◌≡◌, ℕ, ◌+◌, Bool, true, false, List, [], slice_get, map, nat_le, nat_lt, length, IsTrue, Option, Some, None, Result, Ok, Err, if◌then◌else◌}
 use Rattle.std.specs.List.{list_all}
 use Rattle.std.specs.Map.{keys_of}
@@ -16,25 +16,22 @@ use Rattle.std.specs.Option.{option_map_or}
 use Rattle.job_sets.specs.Subset.{Subset, is_rising, with_number}
 use Rattle.job_model.specs.Table.{Table}
 use Rattle.sag_time.specs.Interval.{Interval}
-use Rattle.sag_time.specs.Sorted.{zip_with}
 use Rattle.sag_step.specs.State.{SystemState, HeldState}
 use Rattle.start_windows.specs.Window.{is_candidate}
 use Rattle.sag_step.specs.Shape.{has_shape}
-use Rattle.sag_step.specs.Group.{Offer, offers}
+use Rattle.sag_step.specs.Offers.{Offer, offers}
 use Rattle.cert_text.specs.declared.line.EndOf.{EndOf}
-use Rattle.cert_text.specs.declared.line.Mark.{Mark}
 use Rattle.cert_text.specs.declared.line.CertLine.{CertLine}
 use Rattle.cert_text.specs.declared.line.CertLine.TheVariants as line
-use Rattle.graph_check.specs.declared.reading.Clause.{Clause}
-use Rattle.graph_check.specs.declared.reading.Clause.TheVariants.{K2, K4, K6}
-use Rattle.graph_check.specs.declared.reading.Due.{Due}
-use Rattle.graph_check.specs.declared.reading.Due.TheVariants as due
+use Rattle.graph_check.specs.declared.clause.Clause.{Clause}
+use Rattle.graph_check.specs.declared.clause.Clause.TheVariants.{K2, K4, K6}
+use Rattle.graph_check.specs.declared.due.Due.{Due}
+use Rattle.graph_check.specs.declared.due.Due.TheVariants as due
 use Rattle.graph_check.specs.declared.answer.Broken.{Broken}
 use Rattle.graph_check.specs.declared.answer.Broken.TheVariants as broken
-use Rattle.graph_check.specs.Entries.{JobEntry}
-use Rattle.graph_check.specs.Reading.{Reading, due_in_level}
+use Rattle.graph_check.specs.Progress.{Progress, due_in_level}
 use Rattle.graph_check.specs.Checks.{first_broken, due_checks, is_behind_block}
-use Rattle.graph_check.specs.Kept.{after_line, step}
+use Rattle.graph_check.specs.Kept.{after_line, with_line}
 use Rattle.graph_check.specs.Turns.{IsFit}
 
 -- ---- the state of a line
@@ -56,50 +53,46 @@ pub record IsGiven (table : Table) (m : ℕ) (state : SystemState) (held : HeldS
   pub fit : IsFit table m state
 
 -- The state was found exactly where it has the shape of one.
-unfoldable pub Gives : Table → ℕ → SystemState → Option HeldState → Type 0
-Gives table m state (Some held) = IsGiven table m state held
-Gives table m state None = has_shape table m state ≡ false
+unfoldable pub FindsState : Table → ℕ → SystemState → Option HeldState → Type 0
+FindsState table m state (Some held) = IsGiven table m state held
+FindsState table m state None = has_shape table m state ≡ false
 
 -- ---- a line
 
--- a reading in memory
-pub record HeldReading : Type 0 where
+-- a progress in memory
+pub record HeldProgress : Type 0 where
   pub table : Table
   pub cores : ℕ
-  pub reading : Reading
-
--- the intervals and marks of jobs, as entries
-abbrev pub entries_of : List Interval → List Mark → List JobEntry
-entries_of spans marks = zip_with (λ span mark. record { span = span; mark = mark }) spans marks
+  pub progress : Progress
 
 -- when a line of this kind is due
 abbrev pub due_for : CertLine → Due
 due_for (line.Head jobs cores) = due.Head
 due_for (line.Level number count) = due.Level
 due_for (line.Root pairs) = due.Root
-due_for (line.State parent job pairs ends) = due.State
+due_for (line.State parent job pairs ends last) = due.State
 due_for (line.Edge from job est lst to) = due.Edge
 due_for (line.Job number lo hi mark) = due.Job
 due_for (line.Verdict mark) = due.Verdict
 due_for line.End = due.End
 
 -- the clause that a line of a kind breaks where another kind is due
-abbrev pub turn_clause : Reading → Due → Due → Clause
+abbrev pub turn_clause : Progress → Due → Due → Clause
 turn_clause r due.Edge kind = K6
 turn_clause r other due.Edge = if is_behind_block r other then K6 else K2
 turn_clause r other kind = K2
 
--- The line passes its checks, and the reading is the one after it; or the clause is that of the first check that fails.
-unfoldable pub Comes : Table → ℕ → Reading → CertLine → Result Unit Broken → Reading → Type 0
+-- The line passes its checks, and the progress is the one after it; or the clause is that of the first check that fails.
+unfoldable pub Comes : Table → ℕ → Progress → CertLine → Result Unit Broken → Progress → Type 0
 Comes table m r l (Ok u) new = (first_broken (due_checks table m r r.due l) ≡ None) × (new ≡ after_line table r l)
 Comes table m r l (Err (broken.Clause clause)) new = first_broken (due_checks table m r r.due l) ≡ Some clause
 Comes table m r l (Err broken.Memory) new = Unit {0}
 
 -- ---- parts of a line
 
--- a reading in memory: the offer whose turn it is, if one is left
-unfoldable pub edge_offer : HeldReading → Option Offer
-edge_offer h = slice_get (offers h.table h.reading.before) h.reading.edges
+-- a progress in memory: the offer whose turn it is, if one is left
+unfoldable pub edge_offer : HeldProgress → Option Offer
+edge_offer h = slice_get (offers h.table h.progress.before) h.progress.edges
 
 -- The parent is there, and has the job for a candidate.
 abbrev pub has_candidate : Table → List SystemState → ℕ → ℕ → Bool
@@ -116,18 +109,18 @@ IsChildSet table before parent job (Ok set) =
 IsChildSet table before parent job (Err (broken.Clause clause)) = (clause ≡ K4) × (has_candidate table before parent job ≡ false)
 IsChildSet table before parent job (Err broken.Memory) = Unit {0}
 
--- a reading after one line more, or the failure at that line
-unfoldable pub StepsOn : Table → ℕ → Reading → CertLine → Result Unit Broken → Reading → Type 0
-StepsOn table m r l (Ok u) new = step table m (Ok r) l ≡ Ok new
-StepsOn table m r l (Err (broken.Clause clause)) new = step table m (Ok r) l ≡ Err (record { clause = clause; line = r.lines + 1 })
+-- a progress after one line more, or the failure at that line
+unfoldable pub StepsOn : Table → ℕ → Progress → CertLine → Result Unit Broken → Progress → Type 0
+StepsOn table m r l (Ok u) new = with_line table m (Ok r) l ≡ Ok new
+StepsOn table m r l (Err (broken.Clause clause)) new = with_line table m (Ok r) l ≡ Err (record { clause = clause; line = r.lines + 1 })
 StepsOn table m r l (Err broken.Memory) new = Unit {0}
 
--- the reading, with that line due that its level says
-abbrev pub with_due : Table → Reading → Reading
+-- the progress, with that line due that its level says
+abbrev pub with_due : Table → Progress → Progress
 with_due table r = record r { due = due_in_level table r }
 
 -- at the beginning of the next level: the states so far are those of the one before it
-abbrev pub at_level : Reading → ℕ → Reading
+abbrev pub at_level : Progress → ℕ → Progress
 at_level r number = record r { level = number; before = r.states; states = []; edges = 0 }
 
 -- of a clause that is broken

@@ -1,4 +1,4 @@
--- What is kept of the lines of a certificate: a reading, or the first failure.
+-- What is kept of the lines of a certificate: a progress, or the first failure.
 --     after_line table r line        what is kept after a line that passes its checks
 --     Failure                        a clause, and the number of the line that breaks it, from 1
 --     kept table m lines             what is kept of all these lines
@@ -12,10 +12,10 @@ use Rattle.sag_time.specs.Interval.{Interval, hull}
 use Rattle.sag_step.specs.Next.{finish_interval}
 use Rattle.cert_text.specs.declared.line.CertLine.{CertLine}
 use Rattle.cert_text.specs.declared.line.CertLine.TheVariants as line
-use Rattle.graph_check.specs.declared.reading.Clause.{Clause}
-use Rattle.graph_check.specs.declared.reading.Due.TheVariants as due
+use Rattle.graph_check.specs.declared.clause.Clause.{Clause}
+use Rattle.graph_check.specs.declared.due.Due.TheVariants as due
 use Rattle.graph_check.specs.Entries.{root_from}
-use Rattle.graph_check.specs.Reading.{Reading, start, due_at_end, due_in_level}
+use Rattle.graph_check.specs.Progress.{Progress, before_first_line, due_at_end, due_in_level}
 use Rattle.graph_check.specs.Checks.{first_broken, child, due_checks}
 
 -- the hulls with one more edge of the job
@@ -23,7 +23,7 @@ abbrev pub hulls_with : List (Option Interval) → ℕ → Interval → List (Op
 hulls_with hulls job finish = slice_set hulls job (Some (option_map_or (λ o. option_map_or (hull finish) o finish) (slice_get hulls job) finish))
 
 -- what is kept after a line that passes its checks, but for the number of lines
-abbrev pub after_line : Table → Reading → CertLine → Reading
+abbrev pub after_line : Table → Progress → CertLine → Progress
 after_line table r (line.Head jobs cores) = record r { due = due.Level }
 after_line table r (line.Level zero count) = record r { due = due.Root; count = count }
 after_line table r (line.Level (suc k) count) =
@@ -32,8 +32,8 @@ after_line table r (line.Level (suc k) count) =
 after_line table r (line.Root pairs) =
     let next = record r { states = root_from table pairs ∷ [] } in
     record next { due = due_in_level table next }
-after_line table r (line.State parent job pairs ends) =
-    let state = option_map_or (λ p. child table p job pairs ends ∷ []) (slice_get r.before parent) [] in
+after_line table r (line.State parent job pairs ends last) =
+    let state = option_map_or (λ p. child table p job pairs ends last ∷ []) (slice_get r.before parent) [] in
     let next = record r { states = r.states ++ state } in
     record next { due = due_in_level table next }
 after_line table r (line.Edge from job est lst to) =
@@ -52,18 +52,18 @@ pub record Failure : Type 0 where
   pub line : ℕ
 
 -- one line more; a failure is kept
-abbrev pub step : Table → ℕ → Result Reading Failure → CertLine → Result Reading Failure
-step table m (Err failure) l = Err failure
-step table m (Ok r) l =
+abbrev pub with_line : Table → ℕ → Result Progress Failure → CertLine → Result Progress Failure
+with_line table m (Err failure) l = Err failure
+with_line table m (Ok r) l =
     option_map_or (λ clause. Err (record { clause = clause; line = r.lines + 1 })) (first_broken (due_checks table m r r.due l))
     (Ok (record (after_line table r l) { lines = r.lines + 1 }))
 
 -- what is kept of these lines, taken one by one
-abbrev pub kept : Table → ℕ → List CertLine → Result Reading Failure
-kept table m lines = fold (step table m) (Ok (start table)) lines
+abbrev pub kept : Table → ℕ → List CertLine → Result Progress Failure
+kept table m lines = fold (with_line table m) (Ok (before_first_line table)) lines
 
 -- the failure, where one is kept
-abbrev pub failure_of : Result Reading Failure → Option Failure
+abbrev pub failure_of : Result Progress Failure → Option Failure
 failure_of (Ok r) = None
 failure_of (Err failure) = Some failure
 
@@ -75,4 +75,4 @@ first_failure table m lines = failure_of (kept table m lines)
 pub record HeldChecker : Type 0 where
   pub table : Table
   pub cores : ℕ
-  pub kept : Option (Result Reading Failure)
+  pub kept : Option (Result Progress Failure)

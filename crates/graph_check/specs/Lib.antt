@@ -1,11 +1,13 @@
 pub mod Entries
 pub mod Certificate
 pub mod Valid
-pub mod Reading
+pub mod Old
+pub mod Progress
 pub mod Checks
 pub mod Kept
 pub mod Turns
 pub mod Comings
+pub mod Told
 pub mod Answers
 pub mod Shown
 pub mod Bounds

@@ -1,15 +1,16 @@
 -- What a reader of lines is seen as.
---     held_of progress        the reading that its fields hold
+--     held_progress progress        the progress that its fields hold
 use Rattle.graph_check.specs.declared.progress.Progress.TheInside.{Inside}
 use Rattle.graph_check.specs.Turns.{states_of}
-use Rattle.graph_check.specs.Comings.{HeldReading, entries_of}
+use Rattle.graph_check.specs.Comings.{HeldProgress}
+use Rattle.graph_check.specs.Told.{entries_of}
 
--- the reading that the fields hold
-abbrev pub held_of : Inside → HeldReading
-held_of p = record {
+-- the progress that the fields hold
+abbrev pub held_progress : Inside → HeldProgress
+held_progress p = record {
   table = p.walk.table;
   cores = p.walk.cores;
-  reading = record {
+  progress = record {
     lines = p.lines;
     due = p.due;
     level = p.level;
@@ -17,7 +18,7 @@ held_of p = record {
     before = p.walk.level;
     states = states_of p.states.items;
     edges = p.walk.passed;
-    hulls = p.hulls.items;
+    hulls = p.hulls;
     jobs = entries_of p.jobs.spans.items p.jobs.marks.items;
   };
 }

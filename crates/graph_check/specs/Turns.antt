@@ -17,8 +17,8 @@ use Rattle.sag_step.specs.declared.TheConstants.{MOST_STEP_TIME}
 use Rattle.sag_step.specs.State.{SystemState, HeldState, first_core}
 use Rattle.sag_step.specs.Next.{next}
 use Rattle.sag_step.specs.Shape.{IsState, IsUpTo}
-use Rattle.sag_step.specs.Group.{Offer, offers, offers_of}
-use Rattle.graph_check.specs.declared.offer_walk.Turn.{Turn}
+use Rattle.sag_step.specs.Offers.{Offer, offers, offers_of}
+use Rattle.graph_check.specs.declared.turn.Turn.{Turn}
 
 -- a state of the table, with numbers from which a step can be made
 pub record IsFit (table : Table) (m : ℕ) (state : SystemState) : Type 0 where

@@ -1,8 +1,8 @@
 -- Valid certificates.
---     IsValidBlock                    a level above 0 keeps clauses K4 to K8
---     KeepsClauses table m c          the certificate keeps clauses K1 to K11
+--     IsBlockBy, IsValidBlock         a level above 0 keeps clauses K4 to K8, with any relation for K8, and with that of the format
+--     KeepsBy, KeepsClauses           a certificate keeps clauses K1 to K11
 --     Valid table m lines             the lines are those of a certificate that keeps them
-use Rattle.std.specs.Prelude.{◌≡◌, ℕ, List, [], ◌∷◌, ◌≤◌, ◌↔◌, length, map, IsTrue, IsSomeAnd, slice_get}
+use Rattle.std.specs.Prelude.{◌≡◌, ℕ, Bool, List, [], ◌∷◌, ◌≤◌, ◌↔◌, length, map, IsTrue, IsSomeAnd, slice_get}
 use Rattle.std.specs.Option.{option_map_or}
 use Rattle.std.specs.List.{enumerate_from, list_all, AllZip, AllByRecursion}
 use Rattle.job_sets.specs.Subset.{with_number}
@@ -13,7 +13,7 @@ use Rattle.sag_step.specs.State.{SystemState, root}
 use Rattle.sag_step.specs.Next.{finish_interval}
 use Rattle.sag_step.specs.Widen.{widens}
 use Rattle.sag_step.specs.Shape.{HasShape}
-use Rattle.sag_step.specs.Group.{Offer, offers}
+use Rattle.sag_step.specs.Offers.{Offer, offers}
 use Rattle.cert_text.specs.declared.line.CertLine.{CertLine}
 use Rattle.graph_check.specs.Entries.{state_from, root_from, JobEntry, is_ok_mark}
 use Rattle.graph_check.specs.Certificate.{StateEntry, EdgeEntry, Block, Certificate, lines_of, all_edges}
@@ -30,7 +30,7 @@ parent_set before parent = option_map_or (λ p. p.set.members) (slice_get before
 
 -- its set is the parent's with that job
 abbrev pub entry_state : Table → List SystemState → StateEntry → SystemState
-entry_state table before s = state_from table (with_number s.job (parent_set before s.parent)) s.pairs s.ends
+entry_state table before s = state_from table (with_number s.job (parent_set before s.parent)) s.pairs s.ends s.last
 
 -- the states of a level, each with its set
 abbrev pub block_states : Table → List SystemState → Block → List SystemState
@@ -48,8 +48,9 @@ edge_choice e = (e.from, e.job)
 abbrev pub offer_choice : Offer → ℕ × ℕ
 offer_choice o = (o.from, o.job)
 
--- The level keeps clauses K4 to K8 over the states of the level before it.
-pub record IsValidBlock (table : Table) (m : ℕ) (before : List SystemState) (block : Block) : Type 0 where
+-- The level keeps clauses K4 to K8 over the states of the level before it. K8 asks that each edge leads to a state that may
+-- follow its offer: `Leads before states edge offer`.
+pub record IsBlockBy (Leads : List SystemState → List SystemState → EdgeEntry → Offer → Type 0) (table : Table) (m : ℕ) (before : List SystemState) (block : Block) : Type 0 where
   -- K4
   pub candidates : AllByRecursion (NamesCandidate table before) block.states
   -- K5
@@ -59,12 +60,20 @@ pub record IsValidBlock (table : Table) (m : ℕ) (before : List SystemState) (b
   -- K7
   pub windows : map (λ e. e.window) block.edges ≡ map (λ o. o.window) (offers table before)
   -- K8
-  pub targets : AllZip (LeadsToWider (block_states table before block)) block.edges (offers table before)
+  pub targets : AllZip (Leads before (block_states table before block)) block.edges (offers table before)
+
+-- each block does so over the states of the one before it
+abbrev pub AreBlocksBy : (List SystemState → List SystemState → EdgeEntry → Offer → Type 0) → Table → ℕ → List SystemState → List Block → Type 0
+AreBlocksBy Leads table m before [] = Unit {0}
+AreBlocksBy Leads table m before (block ∷ blocks) = IsBlockBy Leads table m before block × AreBlocksBy Leads table m (block_states table before block) blocks
+
+-- the edge leads to a state that widens the next state of its offer
+abbrev pub IsValidBlock : Table → ℕ → List SystemState → Block → Type 0
+IsValidBlock = IsBlockBy (λ before. LeadsToWider)
 
 -- each block is valid over the states of the one before it
 abbrev pub AreValidBlocks : Table → ℕ → List SystemState → List Block → Type 0
-AreValidBlocks table m before [] = Unit {0}
-AreValidBlocks table m before (block ∷ blocks) = IsValidBlock table m before block × AreValidBlocks table m (block_states table before block) blocks
+AreValidBlocks = AreBlocksBy (λ before. LeadsToWider)
 
 -- ---- K9 and K10: the jobs
 
@@ -78,8 +87,9 @@ IsMarkedRight table s = IsTrue (is_ok_mark s.1.mark) ↔ (s.1.span.hi ≤ (job_a
 
 -- ---- the clauses together
 
--- The certificate keeps clauses K1 to K11 for the table on m cores.
-pub record KeepsClauses (table : Table) (m : ℕ) (c : Certificate) : Type 0 where
+-- The certificate keeps clauses K1 to K11 for the table on m cores, where `wide` says in K3 which state widens which, and
+-- `Leads` in K8 where an edge may lead.
+pub record KeepsBy (wide : SystemState → SystemState → Bool) (Leads : List SystemState → List SystemState → EdgeEntry → Offer → Type 0) (table : Table) (m : ℕ) (c : Certificate) : Type 0 where
   -- K1
   pub jobs : c.jobs ≡ length table.jobs
   pub cores : c.cores ≡ m
@@ -89,9 +99,9 @@ pub record KeepsClauses (table : Table) (m : ℕ) (c : Certificate) : Type 0 whe
   -- K3, and K5 of level 0
   pub one_root : c.root_count ≡ 1
   pub root_shape : HasShape table m (root_from table c.root)
-  pub root_wide : IsTrue (widens (root_from table c.root) (root table m))
+  pub root_wide : IsTrue (wide (root_from table c.root) (root table m))
   -- K4 to K8
-  pub blocks : AreValidBlocks table m (root_from table c.root ∷ []) c.blocks
+  pub blocks : AreBlocksBy Leads table m (root_from table c.root ∷ []) c.blocks
   -- K9
   pub spans : AllByRecursion (λ s. s.span.lo ≤ s.span.hi) c.spans
   pub in_spans : AllByRecursion (IsInSpan table c.spans) (all_edges c)
@@ -99,6 +109,10 @@ pub record KeepsClauses (table : Table) (m : ℕ) (c : Certificate) : Type 0 whe
   pub marks : AllByRecursion (IsMarkedRight table) (enumerate_from 0 c.spans)
   -- K11
   pub verdict : is_ok_mark c.verdict ≡ list_all (λ s. is_ok_mark s.mark) c.spans
+
+-- The certificate keeps clauses K1 to K11 for the table on m cores.
+abbrev pub KeepsClauses : Table → ℕ → Certificate → Type 0
+KeepsClauses = KeepsBy widens (λ before. LeadsToWider)
 
 -- The lines are those of a certificate that keeps the clauses.
 pub record Valid (table : Table) (m : ℕ) (lines : List CertLine) : Type 0 where

@@ -1,6 +1,6 @@
 // Laws of certificates.
 
-ghost use Rattle.graph_check.specs.Laws.{FailureIsFirst, KeptAreSpans, SpansHold, ValidIsKept, ValidIsUnbroken, YesIsSound};
+ghost use Rattle.graph_check.specs.Laws.{FailureIsFirst, JobEntriesAreSpans, KeptAreSpans, OldIsValid, SpansHold, ValidIsKept, ValidIsUnbroken, YesIsSound};
 
 /// A failure is at the first line that breaks a clause.
 pub fn failure_is_first()
@@ -17,9 +17,19 @@ pub fn valid_is_unbroken()
     ensures { ValidIsUnbroken }
 {}
 
+/// A certificate of the old version that is valid by its steps is valid.
+pub fn old_is_valid()
+    ensures { OldIsValid }
+{}
+
 /// What is kept of the jobs of valid lines are their intervals and marks.
 pub fn kept_are_spans()
     ensures { KeptAreSpans }
+{}
+
+/// The intervals and marks of a certificate are those of its job lines.
+pub fn job_entries_are_spans()
+    ensures { JobEntriesAreSpans }
 {}
 
 /// In each legal run each job finishes within its interval of a valid certificate, and by its deadline where its mark is

@@ -2,10 +2,12 @@
 
 ghost use Rattle.std.specs.Prelude.{◌≡◌, ◌≤◌, length, map, IfNone, IfOk, IfSome, IsTrue};
 ghost use Rattle.std.specs.List.{AllByRecursion};
+ghost use Rattle.job_sets.specs.Subset.{IsSubset};
 ghost use Rattle.sag_time.specs.Sorted.{is_sorted};
-ghost use Rattle.cert_text.specs.Spelling.{FitsEnd, FitsPairs, first_version};
+ghost use Rattle.cert_text.specs.Grammar.{second_version};
+ghost use Rattle.cert_text.specs.Spelling.{FitsEnd, FitsPairs};
 ghost use Rattle.graph_check.specs.Entries.{state_from};
-ghost use Rattle.graph_check.specs.Comings.{AreEnds, Gives, ends_of_line};
+ghost use Rattle.graph_check.specs.Comings.{AreEnds, FindsState, ends_of_line};
 
 use cert_text::{EndOf, Pair};
 use job_model::JobTable;
@@ -17,7 +19,7 @@ use std::alloc::{AllocError, Global};
 
 // The ends that the line gives, if they can be those of a state.
 fn ends_of_line(alloc: Global, size: u16, list: &[EndOf]) -> Result<Option<Ends>, AllocError>
-    requires { length list.now ≤ 4096 }
+    requires { length list.now ≤ second_version.most_items }
     ensures ends { IfOk result (λ found. IfSome found (λ ends. ends.items ≡ ends_of_line list.now)) }
     ensures none { IfOk result (λ found. IfNone found (¬ AreEnds size (ends_of_line list.now))) }
 {
@@ -37,9 +39,31 @@ fn ends_of_line(alloc: Global, size: u16, list: &[EndOf]) -> Result<Option<Ends>
     Ok(Some(ends))
 }
 
+// The jobs that the line gives as the last on their cores, if their numbers rise and are of the table.
+fn last_of_line(alloc: Global, size: u16, list: &[u64]) -> Result<Option<JobSet>, AllocError>
+    ensures last { IfOk result (λ found. IfSome found (λ last. last
+        ≡ record { size = size; members = list.now })) }
+    ensures none { IfOk result (λ found. IfNone found
+        (¬ IsSubset (record { size = size; members = list.now }))) }
+{
+    let mut last = JobSet::empty(alloc, size)?;
+    let mut least = 0;
+    for number in list {
+        if *number < least {
+            return Ok(None);
+        }
+        if *number >= u64::from(size) {
+            return Ok(None);
+        }
+        last.add(JobNo(*number as u16));
+        least = *number + 1;
+    }
+    Ok(Some(last))
+}
+
 // From when on the cores are possibly free, if the numbers are sorted.
 fn low_times(alloc: Global, pairs: &[Pair]) -> Result<Option<Avail>, AllocError>
-    requires { length pairs.now ≤ 64 }
+    requires { length pairs.now ≤ second_version.most_pairs }
     ensures times { IfOk result (λ found. IfSome found (λ low. low ≡ map (λ p. p.lo) pairs.now)) }
     ensures none { IfOk result (λ found. IfNone found
         (¬ IsTrue (is_sorted (map (λ p. p.lo) pairs.now)))) }
@@ -50,7 +74,7 @@ fn low_times(alloc: Global, pairs: &[Pair]) -> Result<Option<Avail>, AllocError>
 
 // From when on the cores are certainly free, if the numbers are sorted.
 fn high_times(alloc: Global, pairs: &[Pair]) -> Result<Option<Avail>, AllocError>
-    requires { length pairs.now ≤ 64 }
+    requires { length pairs.now ≤ second_version.most_pairs }
     ensures times { IfOk result (λ found. IfSome found (λ high. high ≡ map (λ p. p.hi) pairs.now)) }
     ensures none { IfOk result (λ found. IfNone found
         (¬ IsTrue (is_sorted (map (λ p. p.hi) pairs.now)))) }
@@ -67,14 +91,15 @@ pub(crate) fn state_of_line(
     set: JobSet,
     pairs: &[Pair],
     ends: &[EndOf],
+    last: &[u64],
 ) -> Result<Option<State>, AllocError>
     requires cores { 1 ≤ cores }
     requires size { set.size ≡ length table.now.jobs }
-    requires pairs { FitsPairs first_version pairs.now }
-    requires few_ends { length ends.now ≤ 4096 }
+    requires pairs { FitsPairs second_version pairs.now }
+    requires few_ends { length ends.now ≤ second_version.most_items }
     requires ends { AllByRecursion FitsEnd ends.now }
-    ensures { IfOk result (Gives table.now cores
-        (state_from table.now set.members pairs.now ends.now)) }
+    ensures { IfOk result (FindsState table.now cores
+        (state_from table.now set.members pairs.now ends.now last.now)) }
 {
     let _members = set.count();
     let Some(low) = low_times(alloc, pairs)? else {
@@ -86,5 +111,8 @@ pub(crate) fn state_of_line(
     let Some(ends) = ends_of_line(alloc, table.len(), ends)? else {
         return Ok(None);
     };
-    Ok(State::from_parts(table, cores, set, low, high, ends))
+    let Some(last) = last_of_line(alloc, table.len(), last)? else {
+        return Ok(None);
+    };
+    Ok(State::from_parts(table, cores, set, low, high, ends, last))
 }

@@ -9,6 +9,7 @@ ghost use Rattle.sag_step.specs.State.{state_window};
 ghost use Rattle.sag_step.specs.Widen.{widens};
 ghost use Rattle.graph_check.specs.Turns.{AreFit, IsFit, IsStart, offer_at, offers_left, states_of, turn_of, windows_at};
 
+use crate::turn::Turn;
 use job_model::JobTable;
 use job_sets::JobNo;
 use sag_step::{
@@ -18,14 +19,6 @@ use start_windows::{Prospect, StartWindow, eligible};
 use std::alloc::{AllocError, Global};
 use std::marker::{Brand, Model};
 use std::sync::ledger::{Blank, Ledger};
-
-/// What names an offer: the number of a state, an eligible job of it, and its window.
-#[derive(Clone, Copy, PartialEq, Eq, Debug)]
-pub struct Turn {
-    pub from: usize,
-    pub job: JobNo,
-    pub window: StartWindow,
-}
 
 // A place among the offers of a level.
 #[derive(Drop)]
@@ -263,6 +256,15 @@ impl<'a> OfferWalk<'a> {
             self.place.windows.clear();
         }
         settled
+    }
+
+    /// Keeps no states any more, and no offers of them.
+    pub(crate) fn forget_states(&mut self, alloc: Global)
+        ensures table { self.new.table ≡ self.old.table }
+        ensures cores { self.new.cores ≡ self.old.cores }
+    {
+        self.states = Vec::new(alloc);
+        self.place.windows = Vec::new(alloc);
     }
 
     /// Begins with the offers of other states. After want of memory it may be at any place.

@@ -7,9 +7,10 @@ ghost use Rattle.std.specs.Option.{option_map_or};
 ghost use Rattle.sag_time.specs.Interval.{hull};
 ghost use Rattle.job_model.specs.Table.{job_at};
 ghost use Rattle.sag_step.specs.Next.{finish_interval};
-ghost use Rattle.cert_text.specs.Spelling.{Fits, FitsLine, FitsPairs, FitsState, first_version};
+ghost use Rattle.cert_text.specs.Grammar.{IsCertNumber, second_version};
+ghost use Rattle.cert_text.specs.Spelling.{FitsLine, FitsPairs, FitsState};
 ghost use Rattle.cert_text.specs.declared.line.CertLine.TheVariants as form;
-ghost use Rattle.graph_check.specs.declared.reading.Due.TheVariants as dues;
+ghost use Rattle.graph_check.specs.declared.due.Due.TheVariants as dues;
 ghost use Rattle.graph_check.specs.declared.answer.Broken.TheVariants as broken;
 ghost use Rattle.graph_check.specs.Checks as checks;
 ghost use Rattle.graph_check.specs.Checks.{due_checks, edge_checks, first_broken, job_checks};
@@ -17,13 +18,15 @@ ghost use Rattle.graph_check.specs.Comings as comings;
 ghost use Rattle.graph_check.specs.Comings.{Comes, IfClause, IsChildSet, StepsOn, at_level, child_members, due_for, edge_offer, has_candidate, with_due};
 ghost use Rattle.graph_check.specs.Entries.{is_ok_mark, root_from, state_from};
 ghost use Rattle.graph_check.specs.Kept.{hulls_with};
-ghost use Rattle.graph_check.specs.Reading.{start};
-ghost use Rattle.graph_check.specs.Reading as readings;
+ghost use Rattle.graph_check.specs.Progress.{before_first_line};
+ghost use Rattle.graph_check.specs.Progress as progress;
 ghost use Rattle.graph_check.specs.Turns.{IsFit, IsStart};
 
 use crate::answer::{Broken, Yes};
+use crate::due::{is_due, kind_of};
+use crate::hulls::Hulls;
 use crate::line_states::state_of_line;
-use crate::offer_walk::{OfferWalk, Turn};
+use crate::offer_walk::OfferWalk;
 use crate::{Clause, Due};
 use cert_text::{CertLine, EndOf, Mark, Pair};
 use job_model::{JobNo, JobTable};
@@ -46,43 +49,28 @@ pub(crate) struct Progress<'a> {
     // the level before it
     walk: OfferWalk<'a>,
     states: Vec<State>,
-    hulls: Vec<Option<Span>>,
+    hulls: Hulls,
     jobs: Yes,
 }
 
 impl<'a> Model for Progress<'a> {
     ghost use Rattle.std.specs.Prelude.{◌≡◌, ◌<◌, ◌^◌, length};
-    ghost use Rattle.graph_check.specs.Comings.{HeldReading};
+    ghost use Rattle.graph_check.specs.Comings.{HeldProgress};
 
-    ghost Value = { HeldReading };
+    ghost Value = { HeldProgress };
 
     ghost use Rattle.graph_check.specs.Turns.{AreFit, states_of};
-    ghost use Rattle.graph_check.specs.Shown.{held_of};
+    ghost use Rattle.graph_check.specs.Shown.{held_progress};
 
-    ghost view = { held_of };
+    ghost view = { held_progress };
 
     ghost invariant = { λ p. AreFit p.walk.table p.walk.cores (states_of p.states.items)
-        × (length p.hulls.items ≡ length p.walk.table.jobs)
+        × (length p.hulls ≡ length p.walk.table.jobs)
         × (length p.jobs.spans.items ≡ length p.jobs.marks.items)
         × (p.level < 2 ^ 62) };
 }
 
-// The kind of line that it is.
-fn kind_of(line: &CertLine) -> Due
-    ensures { result ≡ due_for line.now }
-{
-    match line {
-        CertLine::Head { .. } => Due::Head,
-        CertLine::Level { .. } => Due::Level,
-        CertLine::Root { .. } => Due::Root,
-        CertLine::State { .. } => Due::State,
-        CertLine::Edge { .. } => Due::Edge,
-        CertLine::Job { .. } => Due::Job,
-        CertLine::Verdict { .. } => Due::Verdict,
-        CertLine::End => Due::End,
-    }
-}
-
+// Whether the mark is ok.
 fn is_ok(mark: Mark) -> bool
     ensures { result ≡ is_ok_mark mark }
 {
@@ -97,37 +85,6 @@ fn agree(one: bool, other: bool) -> bool
     ensures { result ≡ beq one other }
 {
     one == other
-}
-
-// Whether a line of this kind is due.
-fn is_due(due: Due, kind: Due) -> bool
-    ensures { IsTrue result ↔ (due ≡ kind) }
-{
-    due == kind
-}
-
-// Whether the offer is of this state and this job.
-fn is_choice(turn: &Turn, from: u64, job: u64) -> bool
-    ensures { result ≡ ((from == turn.now.from) && (job == turn.now.job)) }
-{
-    from == turn.from as u64 && job == u64::from(turn.job.0)
-}
-
-// Whether the offer has this window.
-fn has_window(turn: &Turn, est: u64, lst: u64) -> bool
-    ensures { result ≡ ((est == turn.now.window.est) && (lst == turn.now.window.lst)) }
-{
-    est == turn.window.est && lst == turn.window.lst
-}
-
-// The hull of the interval and the others, if there are any.
-fn wider(others: Option<Span>, finish: Span) -> Span
-    ensures { result ≡ option_map_or (hull finish) others finish }
-{
-    match others {
-        Some(others) => finish.hull(others),
-        None => finish,
-    }
 }
 
 // The job of that number, if the table has it.
@@ -151,27 +108,6 @@ fn deadline(table: &JobTable, number: u64) -> u64
     }
 }
 
-// No hull, for each of so many jobs.
-fn no_hulls(alloc: Global, count: u16) -> Result<Vec<Option<Span>>, AllocError>
-    ensures { IfOk result (λ hulls. hulls.items ≡ replicate count None) }
-{
-    let mut hulls = Vec::with_capacity(alloc, usize::from(count))?;
-    while hulls.len() < usize::from(count) {
-        hulls.push(None)?;
-    }
-    Ok(hulls)
-}
-
-// Whether the span covers the hull of that number, if there is one.
-fn covers_hull(hulls: &[Option<Span>], number: u64, span: Span) -> bool
-    ensures { result ≡ checks.covers_hull hulls.now number span }
-{
-    match hulls.get(number as usize) {
-        Some(Some(hull)) => span.covers(*hull),
-        _ => true,
-    }
-}
-
 // Whether each mark is ok.
 fn are_all_ok(marks: &[Mark]) -> bool
     ensures { result ≡ list_all is_ok_mark marks.now }
@@ -187,9 +123,9 @@ impl<'a> Progress<'a> {
         cores: u16,
     ) -> Result<Progress<'a>, AllocError>
         requires { 1 ≤ cores }
-        ensures { IfOk result (λ p. p ≡ record { table = table.now; cores = cores; reading = start table.now }) }
+        ensures { IfOk result (λ p. p ≡ record { table = table.now; cores = cores; progress = before_first_line table.now }) }
     {
-        let hulls = no_hulls(alloc, table.len())?;
+        let hulls = Hulls::none(alloc, table.len())?;
         Ok(Progress {
             alloc,
             lines: 0,
@@ -215,29 +151,38 @@ impl<'a> Progress<'a> {
 
     /// How many lines were read.
     pub(crate) fn lines(&self) -> u64
-        ensures { result ≡ self.now.reading.lines }
+        ensures { result ≡ self.now.progress.lines }
     {
         self.lines
     }
 
     /// The kind of line that is due.
     pub(crate) fn due(&self) -> Due
-        ensures { result ≡ self.now.reading.due }
+        ensures { result ≡ self.now.progress.due }
     {
         self.due
     }
 
     /// The intervals and marks of the jobs so far.
     pub(crate) fn into_jobs(self) -> Yes
-        ensures spans { result.spans.items ≡ map (λ s. s.span) self.entry.reading.jobs }
-        ensures marks { result.marks.items ≡ map (λ s. s.mark) self.entry.reading.jobs }
+        ensures spans { result.spans.items ≡ map (λ s. s.span) self.entry.progress.jobs }
+        ensures marks { result.marks.items ≡ map (λ s. s.mark) self.entry.progress.jobs }
     {
         self.jobs
     }
 
+    /// Keeps no states any more.
+    pub(crate) fn forget_states(&mut self)
+        ensures table { self.new.table ≡ self.old.table }
+        ensures cores { self.new.cores ≡ self.old.cores }
+    {
+        self.states = Vec::new(self.alloc);
+        self.walk.forget_states(self.alloc);
+    }
+
     // Which line is due once all levels are read.
     fn due_at_end(&self) -> Due
-        ensures { result ≡ readings.due_at_end self.now.table self.now.reading }
+        ensures { result ≡ progress.due_at_end self.now.table self.now.progress }
     {
         if self.jobs.spans.len() < usize::from(self.walk.table().len()) {
             Due::Job
@@ -248,7 +193,7 @@ impl<'a> Progress<'a> {
 
     // Which line is due in a level.
     fn due_in_level(&self) -> Due
-        ensures { result ≡ readings.due_in_level self.now.table self.now.reading }
+        ensures { result ≡ progress.due_in_level self.now.table self.now.progress }
     {
         if (self.states.len() as u64) < self.count {
             Due::State
@@ -263,14 +208,14 @@ impl<'a> Progress<'a> {
 
     // The number that a level line is due to have.
     fn level_due(&self) -> u64
-        ensures { result ≡ readings.level_due self.now.reading }
+        ensures { result ≡ progress.level_due self.now.progress }
     {
         if self.lines == 1 { 0 } else { self.level + 1 }
     }
 
     // Whether a level above 0 was just read whole, with its edges.
     fn is_behind_block(&self) -> bool
-        ensures { result ≡ checks.is_behind_block self.now.reading self.now.reading.due }
+        ensures { result ≡ checks.is_behind_block self.now.progress self.now.progress.due }
     {
         match self.due {
             Due::Level => self.level > 0,
@@ -281,7 +226,7 @@ impl<'a> Progress<'a> {
 
     // The clause that a line breaks that is not of the kind that is due.
     fn turn_clause(&self, kind: Due) -> Clause
-        ensures { result ≡ comings.turn_clause self.now.reading self.now.reading.due kind }
+        ensures { result ≡ comings.turn_clause self.now.progress self.now.progress.due kind }
     {
         if self.due == Due::Edge || (kind == Due::Edge && self.is_behind_block()) {
             Clause::K6
@@ -292,7 +237,7 @@ impl<'a> Progress<'a> {
 
     // The clause that a head line breaks, if it breaks any.
     fn head_clause(&self, jobs: u64, cores: u64) -> Option<Clause>
-        ensures { result ≡ first_broken (due_checks self.now.table self.now.cores self.now.reading
+        ensures { result ≡ first_broken (due_checks self.now.table self.now.cores self.now.progress
             dues.Head (form.Head jobs cores)) }
     {
         if jobs != u64::from(self.walk.table().len()) || cores != u64::from(self.walk.cores()) {
@@ -303,9 +248,9 @@ impl<'a> Progress<'a> {
 
     // Takes the head line.
     fn head(&mut self, jobs: u64, cores: u64) -> Result<(), Broken>
-        requires due { self.old.reading.due ≡ dues.Head }
-        ensures comes { Comes self.old.table self.old.cores self.old.reading (form.Head jobs cores)
-            result self.new.reading }
+        requires due { self.old.progress.due ≡ dues.Head }
+        ensures comes { Comes self.old.table self.old.cores self.old.progress (form.Head jobs cores)
+            result self.new.progress }
         ensures table { self.new.table ≡ self.old.table }
         ensures cores { self.new.cores ≡ self.old.cores }
     {
@@ -318,7 +263,7 @@ impl<'a> Progress<'a> {
 
     // The clause that a level line breaks, if it breaks any.
     fn level_clause(&self, number: u64, count: u64) -> Option<Clause>
-        ensures { result ≡ first_broken (due_checks self.now.table self.now.cores self.now.reading
+        ensures { result ≡ first_broken (due_checks self.now.table self.now.cores self.now.progress
             dues.Level (form.Level number count)) }
     {
         if number != self.level_due() {
@@ -332,10 +277,10 @@ impl<'a> Progress<'a> {
 
     // Takes a level line.
     fn level(&mut self, number: u64, count: u64) -> Result<(), Broken>
-        requires due { self.old.reading.due ≡ dues.Level }
-        requires fits { Fits number }
-        ensures comes { Comes self.old.table self.old.cores self.old.reading
-            (form.Level number count) result self.new.reading }
+        requires due { self.old.progress.due ≡ dues.Level }
+        requires fits { IsCertNumber number }
+        ensures comes { Comes self.old.table self.old.cores self.old.progress
+            (form.Level number count) result self.new.progress }
         ensures table { self.new.table ≡ self.old.table }
         ensures cores { self.new.cores ≡ self.old.cores }
     {
@@ -352,10 +297,10 @@ impl<'a> Progress<'a> {
 
     // Begins the level of that number, which is not 0.
     fn begin_level(&mut self, number: u64) -> Result<(), Broken>
-        requires fits { Fits number }
+        requires fits { IsCertNumber number }
         ensures begun { OnOk result (self.new ≡ record self.old {
-          reading =
-              with_due self.old.table (at_level self.old.reading number);
+          progress =
+              with_due self.old.table (at_level self.old.progress number);
         }) }
         ensures memory { IfErr result (λ e. e ≡ broken.Memory) }
         ensures table { self.new.table ≡ self.old.table }
@@ -373,13 +318,13 @@ impl<'a> Progress<'a> {
 
     // The state of a root line, or K5 or K3.
     fn root_state(&self, pairs: &[Pair]) -> Result<State, Broken>
-        requires fits { FitsPairs first_version pairs.now }
+        requires fits { FitsPairs second_version pairs.now }
         ensures state { IfOk result (λ s. s.state ≡ root_from self.now.table pairs.now) }
         ensures fit { IfOk result (λ s. IsFit self.now.table self.now.cores s.state) }
         ensures passes { OnOk result (first_broken (due_checks self.now.table self.now.cores
-            self.now.reading dues.Root (form.Root pairs.now)) ≡ None) }
+            self.now.progress dues.Root (form.Root pairs.now)) ≡ None) }
         ensures clause { IfErr result (IfClause (λ clause. first_broken (due_checks self.now.table
-            self.now.cores self.now.reading dues.Root (form.Root pairs.now)) ≡ Some clause)) }
+            self.now.cores self.now.progress dues.Root (form.Root pairs.now)) ≡ Some clause)) }
     {
         root_is_shaped();
         shaped_are_comparable();
@@ -388,7 +333,7 @@ impl<'a> Progress<'a> {
         let Ok(set) = JobSet::empty(self.alloc, table.len()) else {
             return Err(Broken::Memory);
         };
-        let Ok(found) = state_of_line(self.alloc, table, cores, set, pairs, &[]) else {
+        let Ok(found) = state_of_line(self.alloc, table, cores, set, pairs, &[], &[]) else {
             return Err(Broken::Memory);
         };
         let Some(state) = found else {
@@ -405,10 +350,10 @@ impl<'a> Progress<'a> {
 
     // Takes the root line.
     fn root(&mut self, pairs: &[Pair]) -> Result<(), Broken>
-        requires due { self.old.reading.due ≡ dues.Root }
-        requires fits { FitsPairs first_version pairs.now }
-        ensures comes { Comes self.old.table self.old.cores self.old.reading
-            (form.Root pairs.now) result self.new.reading }
+        requires due { self.old.progress.due ≡ dues.Root }
+        requires fits { FitsPairs second_version pairs.now }
+        ensures comes { Comes self.old.table self.old.cores self.old.progress
+            (form.Root pairs.now) result self.new.progress }
         ensures table { self.new.table ≡ self.old.table }
         ensures cores { self.new.cores ≡ self.old.cores }
     {
@@ -425,9 +370,9 @@ impl<'a> Progress<'a> {
     fn add_state(&mut self, state: State) -> Result<(), Broken>
         requires { IsFit self.old.table self.old.cores state.state }
         ensures added { OnOk result (self.new ≡ record self.old {
-          reading =
-              with_due self.old.table (record self.old.reading {
-                states = self.old.reading.states ++ state.state ∷ [];
+          progress =
+              with_due self.old.table (record self.old.progress {
+                states = self.old.progress.states ++ state.state ∷ [];
               });
         }) }
         ensures memory { IfErr result (λ e. e ≡ broken.Memory) }
@@ -444,7 +389,7 @@ impl<'a> Progress<'a> {
 
     // The jobs of a state with that parent, which adds that job, or K4 where the parent has no such candidate.
     fn child_set(&self, parent: u64, job: u64) -> Result<JobSet, Broken>
-        ensures { IsChildSet self.now.table self.now.reading.before parent job result }
+        ensures { IsChildSet self.now.table self.now.progress.before parent job result }
     {
         let table = self.walk.table();
         let Some(parent) = self.walk.state(parent) else {
@@ -470,16 +415,17 @@ impl<'a> Progress<'a> {
         job: u64,
         pairs: &[Pair],
         ends: &[EndOf],
+        last: &[u64],
     ) -> Result<State, Broken>
-        requires fits { FitsState first_version parent job pairs.now ends.now }
+        requires fits { FitsState second_version parent job pairs.now ends.now last.now }
         ensures state { IfOk result (λ s. s.state ≡ state_from self.now.table
-            (child_members self.now.reading.before parent job) pairs.now ends.now) }
-        ensures parent { OnOk result (IsTrue (has_candidate self.now.table self.now.reading.before parent job)) }
+            (child_members self.now.progress.before parent job) pairs.now ends.now last.now) }
+        ensures parent { OnOk result (IsTrue (has_candidate self.now.table self.now.progress.before parent job)) }
         ensures fit { IfOk result (λ s. IsFit self.now.table self.now.cores s.state) }
         ensures passes { OnOk result (first_broken (due_checks self.now.table self.now.cores
-            self.now.reading dues.State (form.State parent job pairs.now ends.now)) ≡ None) }
+            self.now.progress dues.State (form.State parent job pairs.now ends.now last.now)) ≡ None) }
         ensures clause { IfErr result (IfClause (λ clause. first_broken (due_checks self.now.table
-            self.now.cores self.now.reading dues.State (form.State parent job pairs.now ends.now))
+            self.now.cores self.now.progress dues.State (form.State parent job pairs.now ends.now last.now))
             ≡ Some clause)) }
     {
         let set = match self.child_set(parent, job) {
@@ -488,7 +434,7 @@ impl<'a> Progress<'a> {
         };
         let table = self.walk.table();
         let cores = self.walk.cores();
-        let Ok(found) = state_of_line(self.alloc, table, cores, set, pairs, ends) else {
+        let Ok(found) = state_of_line(self.alloc, table, cores, set, pairs, ends, last) else {
             return Err(Broken::Memory);
         };
         let Some(state) = found else {
@@ -498,15 +444,22 @@ impl<'a> Progress<'a> {
     }
 
     // Takes a state line.
-    fn state(&mut self, parent: u64, job: u64, pairs: &[Pair], ends: &[EndOf]) -> Result<(), Broken>
-        requires due { self.old.reading.due ≡ dues.State }
-        requires fits { FitsState first_version parent job pairs.now ends.now }
-        ensures comes { Comes self.old.table self.old.cores self.old.reading
-            (form.State parent job pairs.now ends.now) result self.new.reading }
+    fn state(
+        &mut self,
+        parent: u64,
+        job: u64,
+        pairs: &[Pair],
+        ends: &[EndOf],
+        last: &[u64],
+    ) -> Result<(), Broken>
+        requires due { self.old.progress.due ≡ dues.State }
+        requires fits { FitsState second_version parent job pairs.now ends.now last.now }
+        ensures comes { Comes self.old.table self.old.cores self.old.progress
+            (form.State parent job pairs.now ends.now last.now) result self.new.progress }
         ensures table { self.new.table ≡ self.old.table }
         ensures cores { self.new.cores ≡ self.old.cores }
     {
-        match self.child_state(parent, job, pairs, ends) {
+        match self.child_state(parent, job, pairs, ends, last) {
             Ok(state) => self.add_state(state),
             Err(broken) => Err(broken),
         }
@@ -514,7 +467,7 @@ impl<'a> Progress<'a> {
 
     // The clause that an edge line breaks, if it breaks any.
     fn edge_clause(&mut self, from: u64, job: u64, est: u64, lst: u64, to: u64) -> Option<Clause>
-        ensures clause { result ≡ first_broken (edge_checks self.old.reading.states
+        ensures clause { result ≡ first_broken (edge_checks self.old.progress.states
             (edge_offer self.old) from job est lst to) }
         ensures left { IfNone result (IsSome (edge_offer self.old)) }
         ensures start { IfNone result (IsStart self.old.table job (record { est = est; lst = lst })) }
@@ -523,10 +476,10 @@ impl<'a> Progress<'a> {
         let Some(turn) = self.walk.turn() else {
             return Some(Clause::K6);
         };
-        if !is_choice(&turn, from, job) {
+        if !turn.is_choice(from, job) {
             return Some(Clause::K6);
         }
-        if !has_window(&turn, est, lst) {
+        if !turn.has_window(est, lst) {
             return Some(Clause::K7);
         }
         let Some(state) = self.states.get(to as usize) else {
@@ -540,12 +493,12 @@ impl<'a> Progress<'a> {
 
     // Takes an edge line.
     fn edge(&mut self, from: u64, job: u64, est: u64, lst: u64, to: u64) -> Result<(), Broken>
-        requires due { self.old.reading.due ≡ dues.Edge }
-        requires est { Fits est }
-        requires lst { Fits lst }
-        requires few { self.old.reading.edges < 2 ^ 63 }
-        ensures comes { Comes self.old.table self.old.cores self.old.reading
-            (form.Edge from job est lst to) result self.new.reading }
+        requires due { self.old.progress.due ≡ dues.Edge }
+        requires est { IsCertNumber est }
+        requires lst { IsCertNumber lst }
+        requires few { self.old.progress.edges < 2 ^ 63 }
+        ensures comes { Comes self.old.table self.old.cores self.old.progress
+            (form.Edge from job est lst to) result self.new.progress }
         ensures table { self.new.table ≡ self.old.table }
         ensures cores { self.new.cores ≡ self.old.cores }
     {
@@ -558,12 +511,12 @@ impl<'a> Progress<'a> {
 
     // Passes the offer whose edge came.
     fn pass_edge(&mut self) -> Result<(), Broken>
-        requires few { self.old.reading.edges < 2 ^ 63 }
+        requires few { self.old.progress.edges < 2 ^ 63 }
         requires left { IsSome (edge_offer self.old) }
         ensures passed { OnOk result (self.new ≡ record self.old {
-          reading =
-              with_due self.old.table (record self.old.reading {
-                edges = self.old.reading.edges + 1;
+          progress =
+              with_due self.old.table (record self.old.progress {
+                edges = self.old.progress.edges + 1;
               });
         }) }
         ensures memory { IfErr result (λ e. e ≡ broken.Memory) }
@@ -581,12 +534,12 @@ impl<'a> Progress<'a> {
     // The hull of the job's edges with one more edge.
     fn widen_hull(&mut self, job: u64, est: u64, lst: u64)
         requires job { job < length self.old.table.jobs }
-        requires est { Fits est }
-        requires lst { Fits lst }
+        requires est { IsCertNumber est }
+        requires lst { IsCertNumber lst }
         requires order { est ≤ lst }
         ensures { self.new ≡ record self.old {
-          reading = record self.old.reading {
-            hulls = hulls_with self.old.reading.hulls job
+          progress = record self.old.progress {
+            hulls = hulls_with self.old.progress.hulls job
                 (finish_interval self.old.table job (record { est = est; lst = lst }));
           };
         } }
@@ -595,12 +548,12 @@ impl<'a> Progress<'a> {
         let _count = table.len();
         let work = table.job(JobNo(job as u16));
         let finish = Span::new(est + work.cmin, lst + work.cmax).unwrap();
-        self.hulls[job as usize] = Some(wider(self.hulls[job as usize], finish));
+        self.hulls.widen(JobNo(job as u16), finish);
     }
 
     // The clause that a job line breaks, if it breaks any.
     fn job_clause(&self, number: u64, lo: u64, hi: u64, mark: Mark) -> Option<Clause>
-        ensures { result ≡ first_broken (job_checks self.now.table self.now.reading number
+        ensures { result ≡ first_broken (job_checks self.now.table self.now.progress number
             (record { lo = lo; hi = hi }) mark) }
     {
         if number != self.jobs.spans.len() as u64 {
@@ -609,7 +562,7 @@ impl<'a> Progress<'a> {
         let Some(span) = Span::new(lo, hi) else {
             return Some(Clause::K9);
         };
-        if !covers_hull(&self.hulls, number, span) {
+        if !self.hulls.covers(number, span) {
             return Some(Clause::K9);
         }
         if !agree(is_ok(mark), hi <= deadline(self.walk.table(), number)) {
@@ -620,9 +573,9 @@ impl<'a> Progress<'a> {
 
     // Takes a job line.
     fn job(&mut self, number: u64, lo: u64, hi: u64, mark: Mark) -> Result<(), Broken>
-        requires due { self.old.reading.due ≡ dues.Job }
-        ensures comes { Comes self.old.table self.old.cores self.old.reading
-            (form.Job number lo hi mark) result self.new.reading }
+        requires due { self.old.progress.due ≡ dues.Job }
+        ensures comes { Comes self.old.table self.old.cores self.old.progress
+            (form.Job number lo hi mark) result self.new.progress }
         ensures table { self.new.table ≡ self.old.table }
         ensures cores { self.new.cores ≡ self.old.cores }
     {
@@ -640,7 +593,7 @@ impl<'a> Progress<'a> {
 
     // The clause that a verdict line breaks, if it breaks any.
     fn verdict_clause(&self, mark: Mark) -> Option<Clause>
-        ensures { result ≡ first_broken (due_checks self.now.table self.now.cores self.now.reading
+        ensures { result ≡ first_broken (due_checks self.now.table self.now.cores self.now.progress
             dues.Verdict (form.Verdict mark)) }
     {
         if !agree(is_ok(mark), are_all_ok(&self.jobs.marks)) {
@@ -651,9 +604,9 @@ impl<'a> Progress<'a> {
 
     // Takes the verdict line.
     fn verdict(&mut self, mark: Mark) -> Result<(), Broken>
-        requires due { self.old.reading.due ≡ dues.Verdict }
-        ensures comes { Comes self.old.table self.old.cores self.old.reading (form.Verdict mark)
-            result self.new.reading }
+        requires due { self.old.progress.due ≡ dues.Verdict }
+        ensures comes { Comes self.old.table self.old.cores self.old.progress (form.Verdict mark)
+            result self.new.progress }
         ensures table { self.new.table ≡ self.old.table }
         ensures cores { self.new.cores ≡ self.old.cores }
     {
@@ -666,9 +619,9 @@ impl<'a> Progress<'a> {
 
     // Takes the end line.
     fn end(&mut self) -> Result<(), Broken>
-        requires due { self.old.reading.due ≡ dues.End }
-        ensures comes { Comes self.old.table self.old.cores self.old.reading form.End result
-            self.new.reading }
+        requires due { self.old.progress.due ≡ dues.End }
+        ensures comes { Comes self.old.table self.old.cores self.old.progress form.End result
+            self.new.progress }
         ensures table { self.new.table ≡ self.old.table }
         ensures cores { self.new.cores ≡ self.old.cores }
     {
@@ -678,11 +631,11 @@ impl<'a> Progress<'a> {
 
     // Takes a line of the kind that is due.
     fn take_due(&mut self, line: &CertLine) -> Result<(), Broken>
-        requires due { self.old.reading.due ≡ due_for line.now }
-        requires fits { FitsLine first_version line.now }
-        requires few { self.old.reading.edges < 2 ^ 63 }
-        ensures comes { Comes self.old.table self.old.cores self.old.reading line.now result
-            self.new.reading }
+        requires due { self.old.progress.due ≡ due_for line.now }
+        requires fits { FitsLine second_version line.now }
+        requires few { self.old.progress.edges < 2 ^ 63 }
+        ensures comes { Comes self.old.table self.old.cores self.old.progress line.now result
+            self.new.progress }
         ensures table { self.new.table ≡ self.old.table }
         ensures cores { self.new.cores ≡ self.old.cores }
     {
@@ -695,7 +648,14 @@ impl<'a> Progress<'a> {
                 job,
                 pairs,
                 ends,
-            } => self.state(*parent, *job, pairs.as_slice(), ends.as_slice()),
+                last,
+            } => self.state(
+                *parent,
+                *job,
+                pairs.as_slice(),
+                ends.as_slice(),
+                last.as_slice(),
+            ),
             CertLine::Edge {
                 from,
                 job,
@@ -716,10 +676,10 @@ impl<'a> Progress<'a> {
 
     // Takes a line, but for its count.
     fn take(&mut self, line: &CertLine) -> Result<(), Broken>
-        requires fits { FitsLine first_version line.now }
-        requires few { self.old.reading.edges < 2 ^ 63 }
-        ensures comes { Comes self.old.table self.old.cores self.old.reading line.now result
-            self.new.reading }
+        requires fits { FitsLine second_version line.now }
+        requires few { self.old.progress.edges < 2 ^ 63 }
+        ensures comes { Comes self.old.table self.old.cores self.old.progress line.now result
+            self.new.progress }
         ensures table { self.new.table ≡ self.old.table }
         ensures cores { self.new.cores ≡ self.old.cores }
     {
@@ -732,14 +692,14 @@ impl<'a> Progress<'a> {
 
     /// Takes a line.
     pub(crate) fn step(&mut self, line: &CertLine) -> Result<(), Broken>
-        requires fits { FitsLine first_version line.now }
-        requires few_lines { self.old.reading.lines < 2 ^ 63 }
-        requires few_edges { self.old.reading.edges ≤ self.old.reading.lines }
-        ensures step { StepsOn self.old.table self.old.cores self.old.reading line.now result
-            self.new.reading }
+        requires fits { FitsLine second_version line.now }
+        requires few_lines { self.old.progress.lines < 2 ^ 63 }
+        requires few_edges { self.old.progress.edges ≤ self.old.progress.lines }
+        ensures step { StepsOn self.old.table self.old.cores self.old.progress line.now result
+            self.new.progress }
         ensures table { self.new.table ≡ self.old.table }
         ensures cores { self.new.cores ≡ self.old.cores }
-        ensures few_edges { OnOk result (self.new.reading.edges ≤ self.new.reading.lines) }
+        ensures few_edges { OnOk result (self.new.progress.edges ≤ self.new.progress.lines) }
     {
         match self.take(line) {
             Ok(()) => {

@@ -1,1 +1,1 @@
-pub mod JobLemmas
+mod OneJobList

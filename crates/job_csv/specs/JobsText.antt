@@ -2,8 +2,8 @@
 --     jobs_heading      the words of its first line
 --     jobs_text table   the heading, and a row for each job by its number
 use Rattle.std.specs.Prelude.{ℕ, List, [], ◌∷◌, codes, map}
-use Rattle.csv_numbers.specs.TableText.{table_text}
-use Rattle.job_csv.specs.Jobs.{job_columns}
+use Rattle.csv_numbers.specs.RowsText.{rows_text}
+use Rattle.job_model.specs.JobRow.{job_columns}
 use Rattle.job_model.specs.Table.{Table}
 
 -- the words of the first line
@@ -13,4 +13,4 @@ jobs_heading =
 
 -- the heading, and a row for each job by its number
 abbrev pub jobs_text : Table → List ℕ
-jobs_text table = table_text jobs_heading (map job_columns table.jobs)
+jobs_text table = rows_text jobs_heading (map job_columns table.jobs)

@@ -2,39 +2,19 @@ use crate::{CsvFault, read_jobs, write_jobs};
 use job_model::{Job, JobTable};
 use std::test::Fail;
 
-// Two jobs: rows `1,1,0,1,1,2,5,1` and `2,1,0,0,2,3,9,2`.
-const JOBS: [Job; 2] = [
-    Job {
-        task: 1,
-        job: 1,
-        rmin: 0,
-        rmax: 1,
-        cmin: 1,
-        cmax: 2,
-        deadline: 5,
-        priority: 1,
-    },
-    Job {
-        task: 2,
-        job: 1,
-        rmin: 0,
-        rmax: 0,
-        cmin: 2,
-        cmax: 3,
-        deadline: 9,
-        priority: 2,
-    },
-];
-
 #[test]
 fn reads_jobs(rt: HostRuntime) -> Result<(), Fail> {
     let plain = b"Task ID,Job ID,Arrival min,Arrival max,Cost min,Cost max,Deadline,Priority\n\
         1,1,0,1,1,2,5,1\n2,1,0,0,2,3,9,2\n";
     let padded = b"\tTask ID , Job ID,,,,,,Priority\r\n\r\n 1 ,\t1,0\t, 1 ,1 , 2,5, 1\t\r\n\
         \r\n  2,1 ,0,0,\t2\t,3, 9 ,2  \r\n";
+    let want = [
+        Job::from_row([1, 1, 0, 1, 1, 2, 5, 1]),
+        Job::from_row([2, 1, 0, 0, 2, 3, 9, 2]),
+    ];
     for text in [plain.as_slice(), padded.as_slice()] {
         let jobs = read_jobs(rt.alloc(), text)?;
-        assert_eq!(rt; jobs.as_slice(), JOBS.as_slice());
+        assert_eq!(rt; jobs.as_slice(), want.as_slice());
     }
     Ok(())
 }

@@ -1,11 +1,11 @@
-// Writing job files.
+//! Writing job files.
 
 ghost use Rattle.std.specs.Prelude.{◌≡◌, IfOk};
-ghost use Rattle.job_csv.specs.Jobs.{JobRows, job_columns};
+ghost use Rattle.job_csv.specs.Jobs.{JobRows};
 ghost use Rattle.job_csv.specs.JobsText.{jobs_text};
 
 use csv_numbers::write_table;
-use job_model::{Job, JobNo, JobTable};
+use job_model::{JobNo, JobTable};
 use std::alloc::{AllocError, Global};
 
 // The words of the first line.
@@ -20,22 +20,6 @@ const HEADING: [&str; 8] = [
     "Priority",
 ];
 
-// The row of a job.
-fn row_of(job: &Job) -> [u64; 8]
-    ensures { result ≡ job_columns job.now }
-{
-    [
-        job.task,
-        job.job,
-        job.rmin,
-        job.rmax,
-        job.cmin,
-        job.cmax,
-        job.deadline,
-        job.priority,
-    ]
-}
-
 /// The CSV text of a job table: the heading that names the columns, and a row for each job by its number.
 ///
 /// Precedence edges are no part of it.
@@ -46,7 +30,7 @@ pub fn write_jobs(alloc: Global, table: &JobTable) -> Result<Vec<u8>, AllocError
     let count = table.len();
     let mut rows = Vec::with_capacity(alloc, usize::from(count))?;
     for no in 0..count {
-        rows.push(row_of(table.job(JobNo(no))))?;
+        rows.push(table.job(JobNo(no)).row())?;
     }
     write_table(alloc, &HEADING, &rows)
 }

@@ -13,15 +13,17 @@ use Rattle.std.proofs.Math.Seq.{get_or-append_seam}
 use Rattle.std.proofs.lemmas.List.{append_assoc, get_or_default, length-append, length-take-le, take-append-drop, take_more}
 use Rattle.std.proofs.lemmas.List.Elements.{All-contains, All-from_recursion, Contains-append_left, recursion_from_All}
 use Rattle.std.proofs.lemmas.Map.Views.{All-insert_key}
-use Rattle.job_model.specs.declared.TheConstants.{MOST_EDGES}
+use Rattle.job_model.specs.declared.limits.TheConstants.{MOST_EDGES}
 use Rattle.job_model.specs.declared.fault.EdgeFault.{EdgeFault}
 use Rattle.job_model.specs.declared.fault.EdgeFault.TheVariants as fault
 use Rattle.job_model.specs.Cycles.{HoldsCycle, IsFirstClosing}
 use Rattle.job_model.specs.EdgeFaults.{FirstEdgeFault, KeepEdgeRules, ReachedEdge, edges_of}
 use Rattle.job_model.specs.Neighbours.{JoinJobs}
 use Rattle.job_model.specs.Table.{IsTable, Table, edge_cmp}
-use Rattle.job_model.proofs.UrgencyLaws.{both_equal, numbers_tie}
-use Rattle.job_model.proofs.WalkLemmas.{Contains-tail, HoldsCycle-kept}
+use Rattle.job_model.proofs.UrgencyLaws.{both_equal}
+use Rattle.lists.proofs.Orderings.{numbers_tie}
+use Rattle.job_model.proofs.WalkLemmas.{HoldsCycle-kept}
+use Rattle.lists.proofs.Elements.{contains-rest}
 
 edge_total : IsTotalOrder edge_cmp
 edge_total = then_total (on_total (λ e. e.0) nat_cmp_total) (on_total (λ e. e.1) nat_cmp_total)
@@ -63,7 +65,7 @@ module _ (e : ℕ × ℕ) where
       by : (o : Ordering) → edge_cmp e f ≡ o → Contains (placed edges) e → Contains (match_ordering o (e ∷ f ∷ edges) (f ∷ edges) (f ∷ placed edges)) e
       by Less less rest = (0, omega arith, refl)
       by Equal tie rest = (0, omega arith, sym (edges_tie e f tie))
-      by Greater more rest = Contains-tail f e (placed edges) rest
+      by Greater more rest = contains-rest f e (placed edges) rest
 
   placed-keeps : (edges : List (ℕ × ℕ)) (g : ℕ × ℕ) → Contains edges g → Contains (placed edges) g
   placed-keeps [] g there = absurd (omega (arith, there.1))
@@ -71,10 +73,10 @@ module _ (e : ℕ × ℕ) where
     where
       rest : Contains (f ∷ edges) g → (Contains edges g → Contains (placed edges) g) → Contains (f ∷ placed edges) g
       rest (zero, below, is) keeps = (0, omega arith, is)
-      rest (suc k, below, is) keeps = Contains-tail f g (placed edges) (keeps (k, omega (arith, below), is))
+      rest (suc k, below, is) keeps = contains-rest f g (placed edges) (keeps (k, omega (arith, below), is))
 
       by : (o : Ordering) → Contains (f ∷ edges) g → (Contains edges g → Contains (placed edges) g) → Contains (match_ordering o (e ∷ f ∷ edges) (f ∷ edges) (f ∷ placed edges)) g
-      by Less h keeps = Contains-tail e g (f ∷ edges) h
+      by Less h keeps = contains-rest e g (f ∷ edges) h
       by Equal h keeps = h
       by Greater h keeps = rest h keeps
 
@@ -85,7 +87,7 @@ module _ (e : ℕ × ℕ) where
     where
       tail : (e ≡ g) ⊎ Contains edges g → (e ≡ g) ⊎ Contains (f ∷ edges) g
       tail (inl same) = inl same
-      tail (inr there) = inr (Contains-tail f g edges there)
+      tail (inr there) = inr (contains-rest f g edges there)
 
       by : (o : Ordering) → Contains (match_ordering o (e ∷ f ∷ edges) (f ∷ edges) (f ∷ placed edges)) g → (Contains (placed edges) g → (e ≡ g) ⊎ Contains edges g) → (e ≡ g) ⊎ Contains (f ∷ edges) g
       by Less (zero, below, is) from = inl is
@@ -130,7 +132,7 @@ all_placed-from edges (e ∷ rows) g there = by (all_placed-from (placed e edges
 
     by : Contains (placed e edges) g ⊎ Contains rows g → Contains edges g ⊎ Contains (e ∷ rows) g
     by (inl h) = first (placed-from e edges g h)
-    by (inr h) = inr (Contains-tail e g rows h)
+    by (inr h) = inr (contains-rest e g rows h)
 
 length-all_placed : (edges rows : List (ℕ × ℕ)) → length (all_placed edges rows) ≤ length edges + length rows
 length-all_placed edges [] = omega arith
@@ -145,6 +147,10 @@ row-of_edge rows e there = by (all_placed-from [] rows e there)
     by : Contains [] e ⊎ Contains rows e → Contains rows e
     by (inl none) = absurd (omega (arith, none.1))
     by (inr h) = h
+
+-- the edges of rows hold a cycle where the rows do
+pub HoldsCycle-edges : (rows : List (ℕ × ℕ)) → HoldsCycle rows → HoldsCycle (edges_of rows)
+HoldsCycle-edges rows cycle = HoldsCycle-kept rows (edges_of rows) (edge-of_row rows) cycle
 
 -- the edges of rows join what the rows join
 pub edges-joined : (count : ℕ) (rows : List (ℕ × ℕ)) → JoinJobs count rows → JoinJobs count (edges_of rows)

@@ -1,13 +1,13 @@
 -- Precedence rows have one first broken rule.
 use Rattle.std.proofs.Common.{◌≡◌, ◌≢◌, ◌<◌, ◌≤◌, ◌+◌, ◌++◌, ◌∷◌, ◌∙◌, inl, inr, [], ℕ, List, length, arith, refl, sym, ap, subst, length-append}
 use Rattle.std.proofs.lemmas.Bool.{cases_lt}
-use Rattle.job_model.specs.declared.TheConstants.{MOST_EDGES}
+use Rattle.job_model.specs.declared.limits.TheConstants.{MOST_EDGES}
 use Rattle.job_model.specs.declared.fault.EdgeFault.{EdgeFault}
 use Rattle.job_model.specs.declared.fault.EdgeFault.TheVariants as fault
 use Rattle.job_model.specs.Cycles.{HoldsCycle}
 use Rattle.job_model.specs.EdgeFaults.{FirstEdgeFault, ReachedEdge}
 use Rattle.job_model.proofs.EdgeLemmas.{no-rules}
-use Rattle.job_model.proofs.Splits.{front-within, fronts-same}
+use Rattle.lists.proofs.Splits.{front-within, fronts-same}
 
 -- the row of this number breaks the rule, after these rows
 abbrev Breaks : ℕ → List (ℕ × ℕ) → ℕ × ℕ → EdgeFault → Type 0

@@ -1,13 +1,13 @@
 -- The rows of a job table have one first broken rule.
 use Rattle.std.proofs.Common.{◌≡◌, ◌≢◌, ◌<◌, ◌≤◌, ◌+◌, ◌∙◌, inl, inr, ℕ, List, Option, Some, None, length, get_or, arith, refl, sym, ap, ap₂, subst}
 use Rattle.std.proofs.lemmas.Bool.{cases_lt}
-use Rattle.job_model.specs.declared.Job.{Job}
-use Rattle.job_model.specs.declared.TheConstants.{MOST_JOBS}
+use Rattle.job_model.specs.declared.job_row.Job.{Job}
+use Rattle.job_model.specs.declared.limits.TheConstants.{MOST_JOBS}
 use Rattle.job_model.specs.declared.fault.TableFault.{TableFault}
 use Rattle.job_model.specs.declared.fault.TableFault.TheVariants as fault
 use Rattle.job_model.specs.Table.{HaveOneId, IsJob, IsTable, no_job, table_of}
-use Rattle.job_model.specs.TableFaults.{FirstTableFault, ReachedRow, first_above, limited, spans}
-use Rattle.job_model.proofs.Splits.{front-within, fronts-same}
+use Rattle.job_model.specs.TableFaults.{FirstTableFault, ReachedJobRow, first_above, limited, spans}
+use Rattle.lists.proofs.Splits.{front-within, fronts-same}
 use Rattle.job_model.proofs.TableLemmas.{limits-kept, no-table, spans-kept}
 
 -- the row of this number breaks the rule, after these rows
@@ -22,7 +22,7 @@ Breaks p before here fault.Memory = ⊥
 -- a row that was reached breaks the rule
 record BadRow (rows : List Job) (e : TableFault) : Type 0 where
   pub row : ℕ
-  pub reached : ReachedRow rows row
+  pub reached : ReachedJobRow rows row
   pub breaks : Breaks row reached.before reached.here e
 
 bad-row : (rows : List Job) (e : TableFault) → e ≢ fault.Memory → FirstTableFault rows e → (length rows ≤ MOST_JOBS) → BadRow rows e
@@ -34,9 +34,9 @@ bad-row rows (fault.Twice row earlier) other (r, job, k, below, place, same) few
 bad-row rows fault.Memory other first few = absurd (other refl)
 
 -- a row that breaks a rule is the first that does
-first-bad : (rows : List Job) (e : TableFault) (p : ℕ) (r : ReachedRow rows p) → Breaks p r.before r.here e → (e ≢ fault.Memory) × FirstTableFault rows e
+first-bad : (rows : List Job) (e : TableFault) (p : ℕ) (r : ReachedJobRow rows p) → Breaks p r.before r.here e → (e ≢ fault.Memory) × FirstTableFault rows e
 first-bad rows fault.TooMany p r breaks = absurd breaks
-first-bad rows (fault.OverLimit row column) p r breaks = ((λ x. cc), subst (λ n. (r : ReachedRow rows n) × (first_above (limited r.here) ≡ Some column)) (sym breaks.0) (r, breaks.1))
+first-bad rows (fault.OverLimit row column) p r breaks = ((λ x. cc), subst (λ n. (r : ReachedJobRow rows n) × (first_above (limited r.here) ≡ Some column)) (sym breaks.0) (r, breaks.1))
 first-bad rows (fault.SpanReversed row column) p r breaks = ((λ x. cc), subst (λ n. FirstTableFault rows (fault.SpanReversed n column)) (sym breaks.0) (r, breaks.1, breaks.2))
 first-bad rows (fault.ZeroCost row) p r breaks = ((λ x. cc), subst (λ n. FirstTableFault rows (fault.ZeroCost n)) (sym breaks.0) (r, breaks.1, breaks.2, breaks.3))
 first-bad rows (fault.Twice row earlier) p r (is, job, k, below, place, same) = ((λ x. cc), subst (λ n. FirstTableFault rows (fault.Twice n earlier)) (sym is) (r, job, k, below, place, same))
@@ -48,7 +48,7 @@ row-earlier rows e f a b less =
     let r = a.reached in
     let s = b.reached in
     let (tail, is) = front-within r.before r.here r.after s.before s.here s.after (sym r.split ∙ s.split) less in
-    let within : ReachedRow s.before a.row = record {
+    let within : ReachedJobRow s.before a.row = record {
       before = r.before;
       here = r.here;
       after = tail;

@@ -7,11 +7,11 @@ pub mod FirstTableFaults
 pub mod ReleaseLemmas
 pub mod Pigeonhole
 pub mod Undispatched
-pub mod Splits
 pub mod TableLemmas
 pub mod Tables
 pub mod UrgencyLaws
 pub mod RankLaws
 pub mod RankLemmas
+mod Retimed
 mod WorkedEdges
 mod WorkedUrgency

@@ -1,10 +1,12 @@
--- The lists of neighbours, as edges come in one after another.
+-- The lists of neighbours, as edges come in one after another; and that neighbours are jobs.
 use Rattle.std.proofs.Common.{◌≡◌, ◌≢◌, ℕ, ◌<◌, ◌≤◌, ◌⊎◌, inl, inr, cond, List, [], ◌∷◌, ◌++◌, length, map, get_or, set, eqb, sym, subst, ap, ◌∙◌, arith}
 use Rattle.std.proofs.lemmas.Bool.{cases_eq, cases_lt, eq-eqb, ne_eqb}
 use Rattle.std.proofs.lemmas.List.{append-nil, get_or-replicate, get_or-set_other, get_or-set_same, get_or-map, get_or_past, length-replicate, length-set, map-append, map-set}
-use Rattle.std.proofs.lemmas.List.Elements.{filter-append}
+use Rattle.std.proofs.lemmas.List.Elements.{All-filter, All-map, filter-append}
 use Rattle.std.proofs.Math.ListN.{replicate}
+use Rattle.std.specs.Prelude.{◌==◌, All}
 use Rattle.std.specs.List.{filter}
+use Rattle.job_model.specs.Table.{IsTable, Table, successors}
 use Rattle.job_model.specs.Neighbours.{AreNeighbours, JoinJobs, list_at, put_at, sources, targets}
 
 -- empty lists are empty, also past the end
@@ -68,3 +70,9 @@ length-put_at lists j x = length-set lists j (list_at lists j ++ x ∷ [])
 pub joined_at : (count : ℕ) (edges items : List (ℕ × ℕ)) (i : ℕ) (e : ℕ × ℕ) → JoinJobs count edges → items ≡ edges → i < length items → e ≡ get_or items i e → (e.0 < count) × (e.1 < count)
 joined_at count edges items i e joined same below is =
     subst (λ x. (x.0 < count) × (x.1 < count)) (sym (rw same at is)) (joined i e (rw same at below))
+
+-- successors are jobs
+pub successors_below : (table : Table) → IsTable table → (b : ℕ) → All (λ s. s < length table.jobs) (successors table b)
+successors_below table is_table b =
+    All-map (λ s. s < length table.jobs) (λ e. e.1) (filter (λ e. e.0 == b) table.edges)
+    (All-filter (λ e. e.0 == b) (λ e. e.1 < length table.jobs) table.edges (λ k d below. (is_table.edges_in_range k d below).1))

@@ -6,7 +6,7 @@ use Rattle.std.proofs.lemmas.Bool.{cases_order, lt-ltb, le-ltb}
 use Rattle.std.proofs.lemmas.List.FromFn.{get_or-range_with_len, length-range_with_len}
 use Rattle.std.proofs.lemmas.List.Sums.{count_by-le-length, sum_by-cons}
 use Rattle.job_model.specs.Laws.{RanksOrderJobs}
-use Rattle.job_model.specs.Numbers.{numbers_below}
+use Rattle.lists.specs.Numbers.{numbers_below}
 use Rattle.job_model.specs.Ranks.{rank_of}
 use Rattle.job_model.specs.Table.{Table, HaveOneId, IsTable, has_urgency_over, job_at, no_job}
 use Rattle.job_model.proofs.UrgencyLaws.{urgent_itself, urgent-trans, urgent_one_way, urgent_or_urgent}

@@ -13,13 +13,14 @@ use Rattle.std.proofs.lemmas.List.Elements.{All-push}
 use Rattle.std.proofs.lemmas.List.FromFn.{length-range_with_len}
 use Rattle.std.proofs.lemmas.List.Sorted.{All-permutation, Contains-permutation, IsPermutation-map, length_permutation}
 use Rattle.std.proofs.lemmas.Map.Keys.{IsDistinct-from_sorted, IsDistinct-IsPermutation, apart_from_distinct, sorted_from_strictly_increasing}
-use Rattle.job_model.specs.declared.Job.{Job}
-use Rattle.job_model.specs.Numbers.{numbers_below}
+use Rattle.job_model.specs.declared.job_row.Job.{Job}
+use Rattle.lists.specs.Numbers.{numbers_below}
 use Rattle.job_model.specs.Ranks.{AreRanks, rank_of}
 use Rattle.job_model.specs.Table.{IsTable, has_urgency_over, job_at, no_job, table_of}
 use Rattle.job_model.specs.Urgency.{is_more_urgent}
-use Rattle.job_model.proofs.ReleaseLemmas.{numbers_more}
+use Rattle.lists.proofs.Ranges.{numbers_more}
 use Rattle.job_model.proofs.RankLaws.{number_at, one_urgent, rank_below, rank_less}
+use Rattle.lists.proofs.Orderings.{ordering_then-assoc}
 
 -- the edges do not matter
 pub AreRanks-edges : (jobs : List Job) (edges more : List (ℕ × ℕ)) (ranks : List ℕ) → AreRanks (record { jobs = jobs; edges = edges }) ranks
@@ -32,11 +33,6 @@ key_of a = (a.priority, a.task, a.job)
 
 abbrev pub key_cmp : ℕ × ℕ × ℕ → ℕ × ℕ × ℕ → Ordering
 key_cmp a b = ordering_then (ordering_then (nat_cmp a.0 b.0) (nat_cmp a.1 b.1)) (nat_cmp a.2 b.2)
-
-ordering_then-assoc : (a b c : Ordering) → ordering_then (ordering_then a b) c ≡ ordering_then a (ordering_then b c)
-ordering_then-assoc Less b c = refl
-ordering_then-assoc Equal b c = refl
-ordering_then-assoc Greater b c = refl
 
 keys_compare : (a b : Job) → is_lt (key_cmp (key_of a) (key_of b)) ≡ is_more_urgent a b
 keys_compare a b = ap is_lt (ordering_then-assoc (nat_cmp a.priority b.priority) (nat_cmp a.task b.task) (nat_cmp a.job b.job))

@@ -11,12 +11,12 @@ use Rattle.std.proofs.lemmas.List.Quantifiers.{all_pairs_push, position-Some}
 use Rattle.std.proofs.lemmas.Option.{get_or_from_slice_get, slice_get_within}
 use Rattle.std.proofs.Math.Seq.{get_or-append_seam}
 use Rattle.indexmap.specs.IndexSet.{insert_key}
-use Rattle.job_model.specs.declared.Job.{Job}
-use Rattle.job_model.specs.declared.TheConstants.{MOST_JOBS, MOST_ARRIVAL, MOST_COST}
+use Rattle.job_model.specs.declared.job_row.Job.{Job}
+use Rattle.job_model.specs.declared.limits.TheConstants.{MOST_JOBS, MOST_ARRIVAL, MOST_COST}
 use Rattle.job_model.specs.declared.fault.TableFault.{TableFault}
 use Rattle.job_model.specs.declared.fault.TableFault.TheVariants as fault
 use Rattle.job_model.specs.Table.{HaveOneId, IsJob, IsTable, Walk, id_of, no_job, table_of}
-use Rattle.job_model.specs.TableFaults.{FirstTableFault, ReachedRow, first_above, limited, spans}
+use Rattle.job_model.specs.TableFaults.{FirstTableFault, ReachedJobRow, first_above, limited, spans}
 
 none_below : (k : ℕ) → k < 0 → ⊥
 none_below k h = omega (arith, h)
@@ -118,7 +118,7 @@ id-added jobs a keys new_keys place h few table job =
     (IsTable-push jobs a few table job (rw h.ids at none), one_more ∙ ap (λ l. l ++ id_of a ∷ []) h.ids ∙ sym (map-append id_of jobs (a ∷ [])))
 
 -- the row at an index, where those before it are a table
-abbrev pub reached : (rows : List Job) (i : ℕ) (d : Job) → i < length rows → length rows ≤ MOST_JOBS → IsTable (table_of (take i rows)) → ReachedRow rows (i + 1)
+abbrev pub reached : (rows : List Job) (i : ℕ) (d : Job) → i < length rows → length rows ≤ MOST_JOBS → IsTable (table_of (take i rows)) → ReachedJobRow rows (i + 1)
 reached rows i d below few kept = record {
   before = take i rows;
   here = get_or rows i d;
@@ -130,7 +130,7 @@ reached rows i d below few kept = record {
 }
 
 -- a reached row is one of the rows
-reached-at : (rows : List Job) (row : ℕ) (r : ReachedRow rows row) → (length r.before < length rows) × (get_or rows (length r.before) r.here ≡ r.here)
+reached-at : (rows : List Job) (row : ℕ) (r : ReachedJobRow rows row) → (length r.before < length rows) × (get_or rows (length r.before) r.here ≡ r.here)
 reached-at rows row r =
     (omega (arith, ap length r.split, length-append r.before (r.here ∷ r.after)), rw r.split (get_or-append_seam r.before r.here r.after r.here))
 

@@ -1,6 +1,6 @@
 -- Small tables that the proofs of worked rows share.
 use Rattle.std.proofs.Common.{ℕ, [], ◌∷◌}
-use Rattle.job_model.specs.declared.Job.{Job}
+use Rattle.job_model.specs.declared.job_row.Job.{Job}
 use Rattle.job_model.specs.Table.{Table}
 
 abbrev pub job : ℕ → ℕ → ℕ → ℕ → ℕ → ℕ → ℕ → ℕ → Job

@@ -6,7 +6,8 @@ use Rattle.std.proofs.lemmas.Bool.{and_parts, cases_eq}
 use Rattle.std.proofs.lemmas.List.Elements.{All-contains}
 use Rattle.job_model.specs.Table.{IsTable, Table, Walk, predecessors}
 use Rattle.job_model.proofs.Pigeonhole.{pigeonhole}
-use Rattle.job_model.proofs.WalkLemmas.{Contains-tail, edge-from_source}
+use Rattle.job_model.proofs.WalkLemmas.{edge-from_source}
+use Rattle.lists.proofs.Elements.{contains-rest}
 
 -- the test passes at a number below n, or at none
 first_passing : (p : ℕ → Bool) (n : ℕ) → ((x : ℕ) × (x < n) × (p x ≡ true)) ⊎ ((x : ℕ) → x < n → p x ≡ false)
@@ -29,7 +30,7 @@ failing p (x ∷ xs) e = by (p x) refl e (failing p xs)
   where
     by : (b : Bool) → p x ≡ b → (b && list_all p xs) ≡ false → (list_all p xs ≡ false → (y : ℕ) × Contains xs y × (p y ≡ false)) → (y : ℕ) × Contains (x ∷ xs) y × (p y ≡ false)
     by false here fails rest = (x, (0, omega arith, refl), here)
-    by true here fails rest = let found = rest fails in (found.0, Contains-tail x found.0 xs found.1, found.2)
+    by true here fails rest = let found = rest fails in (found.0, contains-rest x found.0 xs found.1, found.2)
 
 module _ (table : Table) (is_table : IsTable table) (done : ℕ → Bool) where
   -- whether j is undispatched, and its predecessors are all dispatched

@@ -1,21 +1,17 @@
 -- Urgency orders the jobs: no job is more urgent than itself, and of two jobs of different IDs one is.
-use Rattle.std.proofs.Common.{◌≡◌, ℕ, ◌<◌, true, false, ◌⊎◌, inl, inr, refl, ap, ◌∙◌}
+use Rattle.std.proofs.Common.{◌≡◌, true, false, ◌⊎◌, inl, inr, refl, ap, ◌∙◌}
 use Rattle.std.specs.declared.cmp.Ordering.{Ordering}
 use Rattle.std.specs.declared.cmp.Ordering.TheVariants.{Less, Equal, Greater}
 use Rattle.std.specs.Ordering.{ordering_reverse, ordering_then, nat_cmp, is_lt}
-use Rattle.std.proofs.lemmas.Cmp.{tied_itself, ranked}
-use Rattle.std.specs.Ordering.{MatchOrdering}
-use Rattle.job_model.specs.declared.Job.{Job}
+use Rattle.std.proofs.lemmas.Cmp.{tied_itself}
+use Rattle.job_model.specs.declared.job_row.Job.{Job}
 use Rattle.job_model.specs.Urgency.{urgency_cmp, is_more_urgent, urgency_total}
 use Rattle.job_model.specs.Table.{HaveOneId}
+use Rattle.lists.proofs.Orderings.{is_Less}
+use Rattle.lists.proofs.Orderings.{numbers_tie}
 
 pub urgent_itself : (a : Job) → is_more_urgent a a ≡ false
 urgent_itself a = ap is_lt (tied_itself urgency_total a)
-
-is_Less : (o : Ordering) → is_lt o ≡ true → o ≡ Less
-is_Less Less e = refl
-is_Less Equal e = cc
-is_Less Greater e = cc
 
 pub urgent-trans : (a b c : Job) → is_more_urgent a b ≡ true → is_more_urgent b c ≡ true → is_more_urgent a c ≡ true
 urgent-trans a b c p q = ap is_lt (urgency_total.trans a b c (is_Less _ p) (is_Less _ q))
@@ -28,14 +24,6 @@ pub both_equal : (o p : Ordering) → ordering_then o p ≡ Equal → (o ≡ Equ
 both_equal Less p e = cc
 both_equal Equal p e = (refl, e)
 both_equal Greater p e = cc
-
-equal_numbers : (x y : ℕ) (o : Ordering) → MatchOrdering o (x < y) (x ≡ y) (y < x) → o ≡ Equal → x ≡ y
-equal_numbers x y Less h e = cc
-equal_numbers x y Equal h e = h
-equal_numbers x y Greater h e = cc
-
-pub numbers_tie : (x y : ℕ) → nat_cmp x y ≡ Equal → x ≡ y
-numbers_tie x y e = equal_numbers x y (nat_cmp x y) (ranked x y (nat_cmp x y) refl) e
 
 -- two jobs of one urgency are one
 pub urgency_tie : (a b : Job) → urgency_cmp a b ≡ Equal → HaveOneId a b

@@ -6,12 +6,10 @@ use Rattle.std.proofs.lemmas.Bool.{eqb-true, eq-eqb}
 use Rattle.job_model.specs.Cycles.{HoldsCycle}
 use Rattle.job_model.specs.Neighbours.{sources}
 use Rattle.job_model.specs.Table.{Walk}
+use Rattle.lists.proofs.Elements.{contains-rest}
 
 pair : (a b i j : ℕ) → a ≡ i → b ≡ j → ◌≡◌ {A = ℕ × ℕ} (a, b) (i, j)
 pair a b i j p q = cc
-
-pub Contains-tail : {X : Type 0} (x z : X) (xs : List X) → Contains xs z → Contains (x ∷ xs) z
-Contains-tail x z xs (k, below, is) = (suc k, omega (arith, below), is)
 
 -- an edge leads to j from each of its sources
 pub edge-from_source : (edges : List (ℕ × ℕ)) (i j : ℕ) → Contains (sources edges j) i → Contains edges (i, j)
@@ -20,9 +18,9 @@ edge-from_source (e ∷ edges) i j there = by (eqb e.1 j) refl there (edge-from_
   where
     by : (b : Bool) → eqb e.1 j ≡ b → Contains (map (λ e. e.0) (cond b (e ∷ filter (λ e. eqb e.1 j) edges) (filter (λ e. eqb e.1 j) edges))) i →
         (Contains (sources edges j) i → Contains edges (i, j)) → Contains (e ∷ edges) (i, j)
-    by false f found rest = Contains-tail e (i, j) edges (rest found)
+    by false f found rest = contains-rest e (i, j) edges (rest found)
     by true f (zero, less, same) rest = (0, omega arith, pair e.0 e.1 i j same (eqb-true e.1 j f))
-    by true f (suc k, less, same) rest = Contains-tail e (i, j) edges (rest (k, omega (arith, less), same))
+    by true f (suc k, less, same) rest = contains-rest e (i, j) edges (rest (k, omega (arith, less), same))
 
 -- where an edge leads to j from is among its sources
 pub source-from_edge : (edges : List (ℕ × ℕ)) (i j : ℕ) → Contains edges (i, j) → Contains (sources edges j) i
@@ -33,7 +31,7 @@ source-from_edge (e ∷ edges) i j (suc k, less, is) = by (eqb e.1 j) (source-fr
   where
     by : (b : Bool) → Contains (sources edges j) i → Contains (map (λ e. e.0) (cond b (e ∷ filter (λ e. eqb e.1 j) edges) (filter (λ e. eqb e.1 j) edges))) i
     by false there = there
-    by true there = Contains-tail e.0 i (sources edges j) there
+    by true there = contains-rest e.0 i (sources edges j) there
 
 -- the last edge of a walk
 pub walk-last : (edges : List (ℕ × ℕ)) (a b n : ℕ) → Walk edges a b (suc n) → (c : ℕ) × Walk edges a c n × Contains edges (c, b)

@@ -1,7 +1,7 @@
 -- Which job is more urgent, worked out: by priority, and at one priority by the IDs; and the ranks of a table's jobs.
 use Rattle.std.proofs.Common.{◌≡◌, ℕ, true, false, [], ◌∷◌, map, refl}
-use Rattle.job_model.specs.declared.Job.{Job}
-use Rattle.job_model.specs.Numbers.{numbers_below}
+use Rattle.job_model.specs.declared.job_row.Job.{Job}
+use Rattle.lists.specs.Numbers.{numbers_below}
 use Rattle.job_model.specs.Ranks.{rank_of}
 use Rattle.job_model.specs.Table.{table_of}
 use Rattle.job_model.specs.Urgency.{is_more_urgent}

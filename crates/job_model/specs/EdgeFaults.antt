@@ -6,7 +6,7 @@
 --     FirstEdgeFault rows fault      the first broken rule; want of memory may come at any rows
 use Rattle.std.specs.Prelude.{◌≡◌, ◌≢◌, ℕ, ◌+◌, ◌<◌, ◌≤◌, List, [], ◌∷◌, ◌++◌, fold, length, ⊤}
 use Rattle.std.specs.BTreeSet.{insert_key}
-use Rattle.job_model.specs.declared.TheConstants.{MOST_EDGES}
+use Rattle.job_model.specs.declared.limits.TheConstants.{MOST_EDGES}
 use Rattle.job_model.specs.declared.fault.EdgeFault.{EdgeFault}
 use Rattle.job_model.specs.declared.fault.EdgeFault.TheVariants as fault
 use Rattle.job_model.specs.Cycles.{HoldsCycle}

@@ -4,7 +4,7 @@
 --     OneEdgeFault       rows have one first broken rule of edges at most
 --     EdgesKeepRules     rows that keep the rules of edges break none
 use Rattle.std.specs.Prelude.{◌≡◌, ◌≢◌, ℕ, List}
-use Rattle.job_model.specs.declared.Job.{Job}
+use Rattle.job_model.specs.declared.job_row.Job.{Job}
 use Rattle.job_model.specs.declared.fault.EdgeFault.{EdgeFault}
 use Rattle.job_model.specs.declared.fault.EdgeFault.TheVariants as edge
 use Rattle.job_model.specs.declared.fault.TableFault.{TableFault}

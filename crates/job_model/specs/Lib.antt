@@ -1,12 +1,14 @@
-pub mod Numbers
+pub mod JobRow
 pub mod Urgency
 pub mod Neighbours
 pub mod Table
 pub mod Ranks
 pub mod TableFaults
 pub mod Cycles
+pub mod Marks
 pub mod EdgeFaults
 pub mod FaultLaws
 pub mod Releases
 pub mod Scenario
+pub mod Times
 pub mod Laws

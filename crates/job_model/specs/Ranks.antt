@@ -2,7 +2,7 @@
 --     rank_of table j              how many jobs of the table are more urgent than j: 0 is the rank of the most urgent
 --     AreRanks table ranks         the rank of each job
 use Rattle.std.specs.Prelude.{◌≡◌, ℕ, ◌<◌, List, count_by, length, slice_index_or}
-use Rattle.job_model.specs.Numbers.{numbers_below}
+use Rattle.lists.specs.Numbers.{numbers_below}
 use Rattle.job_model.specs.Table.{Table, has_urgency_over}
 
 -- how many jobs of the table are more urgent than j

@@ -2,7 +2,7 @@
 --     release_of scenario j, cost_of scenario j      those of job number j
 --     Fits table scenario                            each is in its job's interval
 use Rattle.std.specs.Prelude.{◌≡◌, ℕ, List, ◌≤◌, ◌<◌, length, slice_index_or}
-use Rattle.job_model.specs.declared.Job.{Job}
+use Rattle.job_model.specs.declared.job_row.Job.{Job}
 use Rattle.job_model.specs.Table.{Table, job_at}
 
 -- the release of job number j

@@ -11,8 +11,8 @@ use Rattle.std.specs.Prelude.{◌≡◌, ℕ, [], zero, suc, Bool, List, ◌≤�
 use Rattle.std.specs.declared.cmp.Ordering.{Ordering}
 use Rattle.std.specs.Ordering.{nat_cmp, then_cmp, on}
 use Rattle.std.specs.List.Sorted.{IsStrictlySortedBy}
-use Rattle.job_model.specs.declared.Job.{Job}
-use Rattle.job_model.specs.declared.TheConstants.{MOST_JOBS, MOST_EDGES, MOST_ARRIVAL, MOST_COST}
+use Rattle.job_model.specs.declared.job_row.Job.{Job}
+use Rattle.job_model.specs.declared.limits.TheConstants.{MOST_JOBS, MOST_EDGES, MOST_ARRIVAL, MOST_COST}
 use Rattle.job_model.specs.Neighbours.{sources, targets}
 use Rattle.job_model.specs.Urgency.{is_more_urgent}
 

@@ -5,7 +5,7 @@ use Rattle.std.specs.Prelude.{Bool}
 use Rattle.std.specs.declared.cmp.Ordering.{Ordering}
 use Rattle.std.specs.Ordering.{nat_cmp, then_cmp, on, is_lt}
 use Rattle.std.specs.Cmp.{IsTotalOrder, then_total, on_total, nat_cmp_total}
-use Rattle.job_model.specs.declared.Job.{Job}
+use Rattle.job_model.specs.declared.job_row.Job.{Job}
 
 -- By priority, then by task, then by job: of two jobs the lesser is the more urgent.
 abbrev pub urgency_cmp : Job → Job → Ordering

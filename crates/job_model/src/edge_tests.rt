@@ -11,16 +11,7 @@ fn table_of(alloc: Global, count: u16) -> Result<JobTable, TableFault>
 {
     let mut rows = Vec::new(alloc);
     for job in 0..count {
-        let job = Job {
-            task: 1,
-            job: u64::from(job),
-            rmin: 0,
-            rmax: 1,
-            cmin: 1,
-            cmax: 2,
-            deadline: 5,
-            priority: 1,
-        };
+        let job = Job::from_row([1, u64::from(job), 0, 1, 1, 2, 5, 1]);
         if rows.push(job).is_err() {
             return Err(TableFault::Memory);
         }
@@ -121,11 +112,14 @@ fn keeps_the_number_of_rows(rt: HostRuntime) -> Result<(), Fail> {
 fn takes_a_long_chain(rt: HostRuntime) -> Result<(), Fail> {
     let alloc = rt.alloc();
     let mut ids = Vec::new(alloc);
-    for job in 1..4096 {
+    for job in 1..16_384 {
         ids.push((job - 1, job))?;
     }
-    assert_eq!(rt; fault_of(alloc, 4096, &ids)?, None);
-    ids.push((4095, 0))?;
-    assert_eq!(rt; fault_of(alloc, 4096, &ids)?, Some(EdgeFault::Cycle(4096)));
+    assert_eq!(rt; fault_of(alloc, 16_384, &ids)?, None);
+    ids.push((16_383, 0))?;
+    assert_eq!(rt;
+        fault_of(alloc, 16_384, &ids)?,
+        Some(EdgeFault::Cycle(16_384))
+    );
     Ok(())
 }

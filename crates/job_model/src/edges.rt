@@ -1,4 +1,4 @@
-// Precedence edges, with the neighbours of each job.
+//! Precedence edges, with the neighbours of each job.
 
 ghost use Rattle.std.specs.Prelude.{◌≡◌, [], IfOk};
 ghost use Rattle.job_model.specs.Neighbours.{JoinJobs, sources, targets};

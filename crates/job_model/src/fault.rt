@@ -1,4 +1,4 @@
-// Why a job table or its precedence edges are refused.
+//! Why a job table or its precedence edges are refused.
 
 use thiserror::Error;
 

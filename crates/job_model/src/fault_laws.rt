@@ -1,4 +1,4 @@
-// Laws of the rules of job tables and of precedence rows.
+//! Laws of the rules of job tables and of precedence rows.
 
 ghost use Rattle.job_model.specs.FaultLaws.{EdgesKeepRules, OneEdgeFault, OneTableFault, TablesKeepRules};
 

@@ -1,4 +1,4 @@
-// A list of jobs for each job.
+//! A list of jobs for each job.
 
 ghost use Rattle.std.specs.Prelude.{◌≡◌, ◌<◌, [], IfOk, OnOk, length, replicate};
 ghost use Rattle.job_model.specs.Neighbours.{list_at, put_at};

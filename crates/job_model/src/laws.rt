@@ -1,4 +1,4 @@
-// Laws of job tables.
+//! Laws of job tables.
 
 ghost use Rattle.job_model.specs.Laws.{RanksOrderJobs};
 

@@ -1,4 +1,4 @@
-// The rank of each job by urgency.
+//! The rank of each job by urgency.
 
 ghost use Rattle.std.specs.Prelude.{IfOk};
 ghost use Rattle.job_model.specs.Ranks.{AreRanks};

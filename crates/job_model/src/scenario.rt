@@ -1,4 +1,4 @@
-// Scenarios.
+//! Scenarios.
 
 ghost use Rattle.std.specs.Prelude.{◌≡◌, ◌<◌, ◌↔◌, IfSome, IsSome, IsTrue, length};
 ghost use Rattle.job_model.specs.Scenario.{CanRunAs, Fits, cost_of, release_of};

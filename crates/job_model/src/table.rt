@@ -1,12 +1,14 @@
-// Job tables.
+//! Job tables.
 
-ghost use Rattle.std.specs.Prelude.{◌≡◌, ◌≢◌, ◌<◌, ◌≤◌, Contains, IfErr, IfNone, IfOk, IfSome, List, OnOk, [], length, map};
+ghost use Rattle.std.specs.Bool.{OnFalse, OnTrue};
+ghost use Rattle.std.specs.Prelude.{◌≡◌, ◌≢◌, ◌<◌, ◌≤◌, ◌↔◌, Contains, IfErr, IfNone, IfOk, IfSome, IsTrue, List, OnOk, [], length, map};
 ghost use Rattle.job_model.specs.Table.{IsJob, IsTable, has_urgency_over, id_of, job_at, predecessors, successors, table_of};
 ghost use Rattle.job_model.specs.EdgeFaults.{FirstEdgeFault, KeepEdgeRules, with_edges};
 ghost use Rattle.job_model.specs.Neighbours.{JoinJobs};
 ghost use Rattle.job_model.specs.Ranks.{rank_of};
-ghost use Rattle.job_model.specs.Releases.{IsReleaseOrder};
-ghost use Rattle.job_model.specs.TableFaults.{FirstTableFault, ReachedRow};
+ghost use Rattle.job_model.specs.Releases.{IsReleaseOrder, release_order};
+ghost use Rattle.job_model.specs.TableFaults.{FirstTableFault, ReachedJobRow};
+ghost use Rattle.job_model.specs.Times.{MayCost, with_times};
 ghost use Rattle.job_model.specs.TableFaults.{first_above as above};
 
 use crate::edge_rows::edges_of_rows;
@@ -33,7 +35,7 @@ pub struct JobTable {
 impl Model for JobTable {
     ghost use Rattle.std.specs.Prelude.{◌≡◌, map};
     ghost use Rattle.job_model.specs.Ranks.{AreRanks};
-    ghost use Rattle.job_model.specs.Releases.{IsReleaseOrder};
+    ghost use Rattle.job_model.specs.Releases.{release_order};
     ghost use Rattle.job_model.specs.Table.{IsTable, Table, id_of};
 
     ghost Value = { Table };
@@ -42,7 +44,7 @@ impl Model for JobTable {
 
     ghost invariant = { λ t. IsTable (record { jobs = t.jobs.items; edges = t.edges })
         × (t.ids.keys ≡ map id_of t.jobs.items)
-        × IsReleaseOrder (record { jobs = t.jobs.items; edges = t.edges }) t.by_release.items
+        × (t.by_release.items ≡ release_order (record { jobs = t.jobs.items; edges = t.edges }))
         × AreRanks (record { jobs = t.jobs.items; edges = t.edges }) t.ranks.items };
 }
 
@@ -58,11 +60,25 @@ fn first_above(columns: &[Column]) -> Option<u8>
 }
 
 // Whether the row by itself keeps the rules.
+fn is_job(job: &Job) -> bool
+    ensures { IsTrue result ↔ IsJob job.now }
+{
+    job.rmin <= job.rmax
+        && job.rmax <= MOST_ARRIVAL
+        && 1 <= job.cmin
+        && job.cmin <= job.cmax
+        && job.cmax <= MOST_COST
+}
+
+// The first rule that the row by itself breaks, if it does not keep them.
 fn check_row(row: u32, job: &Job) -> Result<(), TableFault>
     ensures job { OnOk result (IsJob job.now) }
-    ensures fault { IfErr result (λ e. (rows : List Job) (r : ReachedRow rows row)
+    ensures fault { IfErr result (λ e. (rows : List Job) (r : ReachedJobRow rows row)
         → r.here ≡ job.now → FirstTableFault rows e) }
 {
+    if is_job(job) {
+        return Ok(());
+    }
     let limited = [
         (3, job.rmin, MOST_ARRIVAL),
         (4, job.rmax, MOST_ARRIVAL),
@@ -103,6 +119,13 @@ fn index_rows(alloc: Global, rows: &[Job]) -> Result<IndexSet<(u64, u64)>, Table
         }
     }
     Ok(ids)
+}
+
+// Whether a job may have these costs.
+fn may_cost(cmin: u64, cmax: u64) -> bool
+    ensures { IsTrue result ↔ MayCost cmin cmax }
+{
+    1 <= cmin && cmin <= cmax && cmax <= MOST_COST
 }
 
 impl JobTable {
@@ -159,6 +182,26 @@ impl JobTable {
         }
     }
 
+    /// Gives the job other costs and another deadline. No, and nothing changes, where no job may have these costs.
+    pub fn retime(&mut self, no: JobNo, cmin: u64, cmax: u64, deadline: u64) -> bool
+        requires { no < length self.old.jobs }
+        ensures kept { IsTrue result ↔ MayCost cmin cmax }
+        ensures changed { OnTrue result (self.new ≡ with_times self.old no cmin cmax deadline) }
+        ensures unchanged { OnFalse result (self.new ≡ self.old) }
+    {
+        if !may_cost(cmin, cmax) {
+            return false;
+        }
+        let job = &mut self.jobs[no.0 as usize];
+        *job = Job {
+            cmin,
+            cmax,
+            deadline,
+            ..*job
+        };
+        true
+    }
+
     /// The number of jobs.
     pub fn len(&self) -> u16
         ensures count { result ≡ length self.now.jobs }
@@ -176,9 +219,10 @@ impl JobTable {
         &self.jobs[no.0 as usize]
     }
 
-    /// The earliest release and the number of each job, by rising release. Jobs of one release stand in any order.
+    /// The earliest release and the number of each job, by rising release, and at one release by rising number.
     pub fn by_release(&self) -> &[(u64, JobNo)]
-        ensures order { IsReleaseOrder self.now result.now }
+        ensures order { result.now ≡ release_order self.now }
+        ensures rising { IsReleaseOrder self.now result.now }
         ensures table { IsTable self.now }
     {
         &self.by_release

@@ -5,26 +5,8 @@ use std::test::Fail;
 // Two jobs, of which the less urgent may block.
 fn jobs() -> [Job; 2] {
     [
-        Job {
-            task: 1,
-            job: 1,
-            rmin: 0,
-            rmax: 1,
-            cmin: 1,
-            cmax: 2,
-            deadline: 5,
-            priority: 1,
-        },
-        Job {
-            task: 2,
-            job: 1,
-            rmin: 0,
-            rmax: 0,
-            cmin: 2,
-            cmax: 3,
-            deadline: 9,
-            priority: 2,
-        },
+        Job::from_row([1, 1, 0, 1, 1, 2, 5, 1]),
+        Job::from_row([2, 1, 0, 0, 2, 3, 9, 2]),
     ]
 }
 
@@ -35,14 +17,16 @@ fn table_of(alloc: Global, rows: &[Job]) -> Result<JobTable, TableFault> {
     JobTable::from_rows(alloc, rows)
 }
 
-// That many jobs of one task.
-fn many_jobs(alloc: Global, count: u64) -> Result<Vec<Job>, AllocError> {
+// Why that many jobs of one task are no table.
+fn fault_of_many(alloc: Global, count: u64) -> Option<TableFault> {
     let [first, _] = jobs();
     let mut rows = Vec::new(alloc);
     for job in 0..count {
-        rows.push(Job { job, ..first })?;
+        if rows.push(Job { job, ..first }).is_err() {
+            return Some(TableFault::Memory);
+        }
     }
-    Ok(rows)
+    JobTable::from_rows(alloc, rows).err()
 }
 
 #[test]
@@ -62,14 +46,42 @@ fn looks_up_jobs(rt: HostRuntime) -> Result<(), Fail> {
 }
 
 #[test]
+fn reads_rows_as_files_have_them(rt: HostRuntime) {
+    let row = [1, 2, 3, 4, 5, 6, 7, 8];
+    assert_eq!(rt; Job::from_row(row).row(), row);
+    assert_eq!(rt; Job::from_row(row).rmax, 4);
+}
+
+#[test]
 fn orders_jobs_by_release(rt: HostRuntime) -> Result<(), Fail> {
     let [first, second] = jobs();
     let late = Job { rmin: 1, ..first };
-    let table = table_of(rt.alloc(), &[late, second])?;
-    assert_eq!(rt;
-        table.by_release(),
-        [(0, JobNo(1)), (1, JobNo(0))].as_slice()
-    );
+    let last = Job { task: 3, ..first };
+    let table = table_of(rt.alloc(), &[late, second, last])?;
+    let order = [(0, JobNo(1)), (0, JobNo(2)), (1, JobNo(0))];
+    assert_eq!(rt; table.by_release(), order.as_slice());
+    Ok(())
+}
+
+// Whether the second job takes these costs and this deadline; and it, as it then is.
+fn retimed(alloc: Global, cmin: u64, cmax: u64, deadline: u64) -> Result<(bool, Job), TableFault> {
+    let mut table = table_of(alloc, &jobs())?;
+    if table.len() != 2 {
+        return Err(TableFault::TooMany);
+    }
+    let kept = table.retime(JobNo(1), cmin, cmax, deadline);
+    Ok((kept, *table.job(JobNo(1))))
+}
+
+#[test]
+fn retimes_jobs(rt: HostRuntime) -> Result<(), Fail> {
+    let alloc = rt.alloc();
+    let [_, second] = jobs();
+    let longer = Job::from_row([2, 1, 0, 0, 4, 70_368_744_177_663, 3, 2]);
+    assert_eq!(rt; retimed(alloc, 4, 70_368_744_177_663, 3)?, (true, longer));
+    assert_eq!(rt; retimed(alloc, 4, 70_368_744_177_664, 3)?, (false, second));
+    assert_eq!(rt; retimed(alloc, 4, 3, 3)?, (false, second));
+    assert_eq!(rt; retimed(alloc, 0, 3, 3)?, (false, second));
     Ok(())
 }
 
@@ -95,21 +107,12 @@ fn breaks_ties_by_ids(rt: HostRuntime) -> Result<(), Fail> {
 
 #[test]
 fn ranks_jobs_by_urgency(rt: HostRuntime) -> Result<(), Fail> {
-    let [first, _] = jobs();
     let rows = [
-        Job {
-            job: 3,
-            priority: 2,
-            ..first
-        },
-        Job { task: 2, ..first },
-        Job { job: 2, ..first },
-        first,
-        Job {
-            job: 0,
-            priority: 2,
-            ..first
-        },
+        Job::from_row([1, 3, 0, 1, 1, 2, 5, 2]),
+        Job::from_row([2, 1, 0, 1, 1, 2, 5, 1]),
+        Job::from_row([1, 2, 0, 1, 1, 2, 5, 1]),
+        Job::from_row([1, 1, 0, 1, 1, 2, 5, 1]),
+        Job::from_row([1, 0, 0, 1, 1, 2, 5, 2]),
     ];
     let table = table_of(rt.alloc(), &rows)?;
     assert_eq!(rt; table.len(), 5);
@@ -165,29 +168,27 @@ fn keeps_the_limits(rt: HostRuntime) {
     let [first, _] = jobs();
     let last = Job {
         rmax: 281_474_976_710_655,
-        cmax: 281_474_976_710_655,
+        cmax: 70_368_744_177_663,
         ..first
     };
-    let past = Job {
+    let late = Job {
         rmax: 281_474_976_710_656,
-        cmax: 281_474_976_710_656,
-        ..first
+        ..last
+    };
+    let dear = Job {
+        cmax: 70_368_744_177_664,
+        ..last
     };
     assert_eq!(rt; fault_of(alloc, &[last]), None);
-    assert_eq!(rt; fault_of(alloc, &[past]), Some(TableFault::OverLimit(1, 4)));
+    assert_eq!(rt; fault_of(alloc, &[late]), Some(TableFault::OverLimit(1, 4)));
+    assert_eq!(rt; fault_of(alloc, &[dear]), Some(TableFault::OverLimit(1, 6)));
 }
 
 #[test]
-fn keeps_the_number_of_jobs(rt: HostRuntime) -> Result<(), Fail> {
+fn keeps_the_number_of_jobs(rt: HostRuntime) {
     let alloc = rt.alloc();
-    let full = many_jobs(alloc, 4096)?;
-    let over = many_jobs(alloc, 4097)?;
-    assert_eq!(rt; JobTable::from_rows(alloc, full)?.len(), 4096);
-    assert_eq!(rt;
-        JobTable::from_rows(alloc, over).err(),
-        Some(TableFault::TooMany)
-    );
-    Ok(())
+    assert_eq!(rt; fault_of_many(alloc, 16_384), None);
+    assert_eq!(rt; fault_of_many(alloc, 16_385), Some(TableFault::TooMany));
 }
 
 // Whether these releases and costs are a scenario of the table.

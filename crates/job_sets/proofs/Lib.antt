@@ -1,4 +1,6 @@
 pub mod Additions
 pub mod Members
-mod Searches
+pub mod Filters
 mod Worked
+pub mod Bits
+pub mod Subsets

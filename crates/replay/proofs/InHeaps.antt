@@ -12,9 +12,7 @@ use Rattle.job_model.specs.Table.{Table}
 use Rattle.replay.specs.declared.queues.Arrival.{Arrival}
 use Rattle.replay.specs.declared.queues.Urgency.{Urgency}
 use Rattle.replay.specs.Queues.{Queued, AreQueued, IsWaiting, IsComing, copies, is_dispatched, missing_of}
-
-true≢false : true ≡ false → ⊥
-true≢false e = cc
+use Rattle.lists.proofs.Orderings.{true≢false}
 
 pub no_member : {X : Type 0} (xs : List X) (x : X) → xs ≡ [] → Contains xs x → ⊥
 no_member xs x e is_in = omega (arith, is_in.1, ap length e)

@@ -1,16 +1,16 @@
 -- What each job lacks, through a dispatch.
---     successors_below          successors are jobs
 --     AreCounted-first          at first
 --     successors_lack           the successors of the job that is dispatched lack it
 --     AreCounted-more           after a dispatch
 use Rattle.std.proofs.Common.{◌≡◌, ◌≢◌, ℕ, ◌+◌, ◌<◌, ◌≤◌, ◌⊎◌, inl, inr, Bool, false, List, ◌∷◌, length, map, max, sym, ap, ◌∙◌, arith}
-use Rattle.std.specs.Prelude.{All, count_by, filter, ◌==◌}
+use Rattle.std.specs.Prelude.{All, count_by, ◌==◌}
 use Rattle.std.proofs.lemmas.Bool.{cases_lt, eqb-true}
-use Rattle.std.proofs.lemmas.List.Elements.{All-contains, All-filter, All-map}
-use Rattle.job_model.specs.Numbers.{greatest}
+use Rattle.std.proofs.lemmas.List.Elements.{All-contains}
+use Rattle.lists.specs.Numbers.{greatest}
 use Rattle.job_model.specs.Table.{Table, IsTable, predecessors, successors}
 use Rattle.job_model.specs.Scenario.{Fits, cost_of, release_of}
-use Rattle.run_meaning.specs.declared.Place.{Place}
+use Rattle.job_model.proofs.NeighbourLemmas.{successors_below}
+use Rattle.run_meaning.specs.declared.places.Place.{Place}
 use Rattle.run_meaning.specs.Ready.{finish_of}
 use Rattle.run_meaning.proofs.StartsAgree.{predecessors_below}
 use Rattle.replay.specs.declared.queues.Readiness.{Readiness}
@@ -18,11 +18,6 @@ use Rattle.replay.specs.Queues.{Queued, AreCounted, HasAll, Unblocks, is_dispatc
 use Rattle.replay.proofs.Counted.{same_edges, missing_less, none_counted, none_kept, ready_more}
 use Rattle.replay.proofs.InHeaps.{counted}
 use Rattle.run_turns.proofs.Part.{Adds}
-
-pub successors_below : (table : Table) → IsTable table → (b : ℕ) → All (λ s. s < length table.jobs) (successors table b)
-successors_below table is_table b =
-    All-map (λ s. s < length table.jobs) (λ e. e.1) (filter (λ e. e.0 == b) table.edges)
-    (All-filter (λ e. e.0 == b) (λ e. e.1 < length table.jobs) table.edges (λ k d below. (is_table.edges_in_range k d below).1))
 
 module _ (table : Table) (scenario : List (ℕ × ℕ)) (is_table : IsTable table) (fits : Fits table scenario) where
   -- at first

@@ -4,5 +4,5 @@ mod InHeaps
 mod Lacking
 mod NextTurn
 mod Queued
-mod Standing
+mod UnderwayLemmas
 mod Unblocked

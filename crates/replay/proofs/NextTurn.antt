@@ -2,47 +2,41 @@
 --     ready_some, job_found      while a job is left, there is a time at which one waits, and one is taken then
 --     IsNext-found               that job is next, at that time, on that core
 use Rattle.std.proofs.Common.{◌≡◌, ◌≢◌, ℕ, zero, suc, ◌+◌, ◌<◌, ◌≤◌, ◌⊎◌, inl, inr, Bool, true, false, cond, List, [], ◌∷◌, length, map, max, get_or, refl, sym, ap, ◌∙◌, subst, arith, Option, Some, None}
-use Rattle.std.specs.Prelude.{All, Contains, count_by, ◌==◌, ◌&&◌, IsSome, IsTrue, MatchOption, slice_index}
+use Rattle.std.specs.Prelude.{All, Contains, count_by, nat_lt, ◌==◌, ◌&&◌, IsSome, IsTrue, MatchOption, slice_index}
 use Rattle.std.specs.List.{AllByRecursion}
 use Rattle.std.specs.declared.cmp.Ordering.{Ordering}
-use Rattle.std.specs.declared.cmp.Ordering.TheVariants.{Less, Equal, Greater}
+use Rattle.std.specs.declared.cmp.Ordering.TheVariants.{Less}
 use Rattle.std.specs.declared.cmp.Reverse.{Reverse}
 use Rattle.std.specs.Ordering.{ordering_then, nat_cmp, is_lt}
-use Rattle.std.proofs.lemmas.Bool.{eq-eqb, ne_eqb, cond-true, cond-false}
+use Rattle.std.proofs.lemmas.Bool.{eq-eqb, ne_eqb, cond-true, cond-false, lt-ltb}
 use Rattle.std.proofs.lemmas.List.Elements.{All-contains, Contains-get_or, All-from_recursion, All-tail, All-weaker}
 use Rattle.std.proofs.lemmas.List.Sorted.{All-permutation, Contains-permutation, sum_by_popped}
-use Rattle.job_model.specs.Numbers.{greatest}
+use Rattle.lists.specs.Numbers.{greatest}
 use Rattle.job_model.specs.Table.{Table, IsTable, job_at, predecessors, has_urgency_over}
 use Rattle.job_model.specs.Scenario.{Fits, release_of}
+use Rattle.job_model.specs.Ranks.{rank_of}
+use Rattle.job_model.proofs.RankLaws.{rank_less}
 use Rattle.job_model.proofs.UrgencyLaws.{urgent_or_urgent}
-use Rattle.run_meaning.specs.declared.Place.{Place}
+use Rattle.run_meaning.specs.declared.places.Place.{Place}
 use Rattle.run_meaning.specs.Ready.{finish_of, ready_time}
 use Rattle.run_meaning.proofs.Sorted.{ids_differ}
 use Rattle.replay.specs.declared.queues.Arrival.{Arrival}
 use Rattle.replay.specs.declared.queues.Readiness.{Readiness}
 use Rattle.replay.specs.declared.queues.Urgency.{Urgency}
 use Rattle.replay.specs.Cores.{IsFirstFree, IsLowestBy}
-use Rattle.replay.specs.Queues.{Queued, AreCounted, AreQueued, StaysQueued, IsNextReady, IsWaiting, IsComing, IsWithout, Takes, copies, is_dispatched, key_of, missing_of, time_of, urgent_first}
+use Rattle.replay.specs.Queues.{Queued, AreCounted, AreQueued, StaysQueued, IsNextReady, IsWaiting, IsComing, IsWithout, TakesFirst, copies, is_dispatched, urgency_of, missing_of, time_of, urgent_first}
 use Rattle.run_turns.specs.Parts.{IsInUse, CanStart, IsTurn}
-use Rattle.replay.specs.Standing.{Stands, AreFree, LastOn, HasTurn, IsNext}
+use Rattle.replay.specs.Underway.{IsUnderway, AreFree, LastOn, HasTurn, IsNext}
 use Rattle.replay.proofs.Counted.{all_counted, all_done, all_kept}
 use Rattle.replay.proofs.InHeaps.{IsIn, both_zero, counts, in_heaps, is_left, no_member, some_copies}
 use Rattle.run_turns.proofs.Left.{undone_some}
-use Rattle.replay.proofs.Standing.{time_limit, cost_limit}
+use Rattle.replay.proofs.UnderwayLemmas.{time_limit, cost_limit}
 use Rattle.run_turns.proofs.Available.{some_available}
+use Rattle.lists.proofs.Orderings.{true≢false}
 
-true≢false : true ≡ false → ⊥
-true≢false e = cc
-
--- the first parts decide, as far as they are unequal
-less_longer : (a b c d : Ordering) → is_lt (ordering_then a (ordering_then b c)) ≡ true → is_lt (ordering_then a (ordering_then b (ordering_then c d))) ≡ true
-less_longer Less b c d h = refl
-less_longer Greater b c d h = cc
-less_longer Equal Less c d h = refl
-less_longer Equal Greater c d h = cc
-less_longer Equal Equal Less d h = refl
-less_longer Equal Equal Equal d h = cc
-less_longer Equal Equal Greater d h = cc
+-- the smaller first number decides
+less_longer : (a b : ℕ) (o : Ordering) → a < b → is_lt (ordering_then (nat_cmp a b) o) ≡ true
+less_longer a b o less = ap (λ p. is_lt (ordering_then p o)) (cond-true (nat_lt a b) Less _ (lt-ltb a b less))
 
 -- where no predecessor is missing, all are dispatched, and the time is when the job is ready
 module _ (table : Table) (scenario : List (ℕ × ℕ)) (done : ℕ → Bool) (schedule : List Place) (readiness : List Readiness) (counted : AreCounted table scenario done schedule readiness)
@@ -103,7 +97,7 @@ module _ (table : Table) (m : ℕ) (scenario : List (ℕ × ℕ)) (is_table : Is
 
         by : (0 < length old.waiting) ⊎ ((e : Reverse Arrival) × Contains old.later e × (e.0.time ≤ time)) → ⊥
         by (inl some) =
-            let d : Reverse Urgency = record { 0 = key_of table 0 } in
+            let d : Reverse Urgency = record { 0 = urgency_of table 0 } in
             let first = get_or old.waiting 0 d in
             let is_in : Contains old.waiting first = Contains-get_or old.waiting 0 d some in
             let waits = All-contains (IsWaiting table clock old.readiness) old.waiting first queues.waits is_in in
@@ -114,11 +108,11 @@ module _ (table : Table) (m : ℕ) (scenario : List (ℕ × ℕ)) (is_table : Is
             let there = counts (λ e. e.0.no == found.0.0.no) old.later found.0 found.1 (eq-eqb found.0.0.no found.0.0.no refl) in
             never found.0.0.no (omega (arith, there)) (omega (arith, comes.time, found.2))
 
-    job_some : (idle : ℕ) → IsNextReady old (max clock idle) time → (new : Queued) (o : Option Urgency) → MatchOption o (mid.waiting ≡ []) (Takes mid new) → IsSome o
+    job_some : (idle : ℕ) → IsNextReady old (max clock idle) time → (new : Queued) (o : Option Urgency) → MatchOption o (mid.waiting ≡ []) (TakesFirst mid new) → IsSome o
     job_some idle ready new (Some e) found = refl
     job_some idle ready new None none = absurd (waits_some idle ready none)
 
-    module _ (new : Queued) (e : Urgency) (takes : Takes mid new e) where
+    module _ (new : Queued) (e : Urgency) (takes : TakesFirst mid new e) where
       there : IsWaiting table time mid.readiness (record { 0 = e })
       there = All-permutation (IsWaiting table time mid.readiness) mid.waiting _ takes.taken queues_mid.waits 0 (record { 0 = e }) (omega arith)
 
@@ -178,20 +172,17 @@ module _ (table : Table) (m : ℕ) (scenario : List (ℕ × ℕ)) (is_table : Is
         )
 
         -- what is not above e in the heap is less urgent
-        urgent_over : (i : ℕ) → i < length table.jobs → i ≢ e.no → is_lt (urgent_first (record { 0 = e }) (record { 0 = key_of table i })) ≡ false → has_urgency_over table e.no i ≡ true
+        urgent_over : (i : ℕ) → i < length table.jobs → i ≢ e.no → is_lt (urgent_first (record { 0 = e }) (record { 0 = urgency_of table i })) ≡ false → has_urgency_over table e.no i ≡ true
         urgent_over i is_job differ below =
             by (urgent_or_urgent (job_at table e.no) (job_at table i) (ids_differ table schedule is_table e.no i there.is_job is_job (λ same. differ (sym same))))
           where
-            before : has_urgency_over table i e.no ≡ true → is_lt (urgent_first (record { 0 = key_of table e.no }) (record { 0 = key_of table i })) ≡ true
-            before h =
-                let a = job_at table i in
-                let b = job_at table e.no in
-                less_longer (nat_cmp a.priority b.priority) (nat_cmp a.task b.task) (nat_cmp a.job b.job) (nat_cmp i e.no) h
+            before : has_urgency_over table i e.no ≡ true → is_lt (urgent_first (record { 0 = urgency_of table e.no }) (record { 0 = urgency_of table i })) ≡ true
+            before h = less_longer (rank_of table i) (rank_of table e.no) (nat_cmp i e.no) (rank_less table i e.no is_job h)
 
             by : (has_urgency_over table e.no i ≡ true) ⊎ (has_urgency_over table i e.no ≡ true) → has_urgency_over table e.no i ≡ true
             by (inl h) = h
             by (inr h) =
-                absurd (true≢false (sym (before h) ∙ ap (λ k. is_lt (urgent_first (record { 0 = k }) (record { 0 = key_of table i }))) (sym there.key) ∙ below))
+                absurd (true≢false (sym (before h) ∙ ap (λ k. is_lt (urgent_first (record { 0 = k }) (record { 0 = urgency_of table i }))) (sym there.key) ∙ below))
 
         most_urgent : (i : ℕ) → CanStart table m scenario (is_dispatched old) schedule i time → i ≢ e.no → IsTrue (has_urgency_over table e.no i)
         most_urgent i can differ =
@@ -205,15 +196,15 @@ module _ (table : Table) (m : ℕ) (scenario : List (ℕ × ℕ)) (is_table : Is
             below x inside = All-contains (λ y. is_lt (urgent_first (record { 0 = e }) y) ≡ false) new.waiting x
                 (All-from_recursion (λ y. is_lt (urgent_first (record { 0 = e }) y) ≡ false) new.waiting takes.first) inside
 
-            key_is : (x : Reverse Urgency) → x.0.no ≡ i → x.0 ≡ key_of table x.0.no → x.0 ≡ key_of table i
-            key_is x same key = key ∙ ap (key_of table) same
+            key_is : (x : Reverse Urgency) → x.0.no ≡ i → x.0 ≡ urgency_of table x.0.no → x.0 ≡ urgency_of table i
+            key_is x same key = key ∙ ap (urgency_of table) same
 
-            by : (x : Reverse Urgency) → x.0.no ≡ i → x.0 ≡ key_of table x.0.no → Contains (record { 0 = e } ∷ new.waiting) x → IsTrue (has_urgency_over table e.no i)
+            by : (x : Reverse Urgency) → x.0.no ≡ i → x.0 ≡ urgency_of table x.0.no → Contains (record { 0 = e } ∷ new.waiting) x → IsTrue (has_urgency_over table e.no i)
             by x same key (zero, less, at) = absurd (differ (sym (ap (λ y. y.0.no) at ∙ same)))
             by x same key (suc k, less, at) =
                 urgent_over i can.is_job differ (ap (λ y. is_lt (urgent_first (record { 0 = e }) (record { 0 = y }))) (sym (key_is x same key)) ∙ below x (k, omega (arith, less), at))
 
-        module _ (turn : ℕ) (stands : Stands table m scenario (is_dispatched old) schedule clock turn) (free : List ℕ) (frees : AreFree table m scenario (is_dispatched old) schedule free)
+        module _ (turn : ℕ) (stands : IsUnderway table m scenario (is_dispatched old) schedule clock turn) (free : List ℕ) (frees : AreFree table m scenario (is_dispatched old) schedule free)
             (idle core : ℕ) (least : IsFirstFree free idle) (ready : IsNextReady old (max clock idle) time) (lowest : IsLowestBy free time core) where
           -- a core that is not free by s is in use then
           in_use : (c s : ℕ) → c < m → clock ≤ s → s < slice_index free c → IsInUse table m scenario (is_dispatched old) schedule c s
@@ -270,11 +261,11 @@ module _ (table : Table) (m : ℕ) (scenario : List (ℕ × ℕ)) (is_table : Is
   not_before : clock ≤ time
   not_before = omega (arith, ready.not_before, from_is)
 
-  pub job_found : (o : Option Urgency) → MatchOption o (mid.waiting ≡ []) (Takes mid new) → IsSome o
+  pub job_found : (o : Option Urgency) → MatchOption o (mid.waiting ≡ []) (TakesFirst mid new) → IsSome o
   job_found o found = job_some table m scenario is_table old mid clock time has.queues not_before stays rest idle ready_max new o found
 
-  module _ (e : Urgency) (core : ℕ) (takes : Takes mid new e) (least : IsFirstFree free idle) (lowest : IsLowestBy free time core) where
-    turn_is : (schedule : List Place) (turn : ℕ) → Stands table m scenario (is_dispatched old) schedule clock turn →
+  module _ (e : Urgency) (core : ℕ) (takes : TakesFirst mid new e) (least : IsFirstFree free idle) (lowest : IsLowestBy free time core) where
+    turn_is : (schedule : List Place) (turn : ℕ) → IsUnderway table m scenario (is_dispatched old) schedule clock turn →
         AreFree table m scenario (is_dispatched old) schedule free → AreCounted table scenario (is_dispatched old) schedule old.readiness → IsTurn table m scenario (is_dispatched old) schedule clock e.no core time
     turn_is schedule turn stands frees counted =
         next_is table m scenario is_table old mid clock time has.queues not_before stays rest new e takes schedule counted turn stands free frees idle core least ready_max lowest

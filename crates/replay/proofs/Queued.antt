@@ -9,7 +9,7 @@ use Rattle.job_model.specs.Table.{Table}
 use Rattle.replay.specs.declared.queues.Arrival.{Arrival}
 use Rattle.replay.specs.declared.queues.Readiness.{Readiness}
 use Rattle.replay.specs.declared.queues.Urgency.{Urgency}
-use Rattle.replay.specs.Queues.{Queued, AreQueued, StaysQueued, IsWaiting, IsComing, copies, key_of, soonest_first, urgent_first}
+use Rattle.replay.specs.Queues.{Queued, AreQueued, StaysQueued, IsWaiting, IsComing, copies, urgency_of, soonest_first, urgent_first}
 
 -- whether the element is job j
 abbrev waits_as : ℕ → Reverse Urgency → Bool
@@ -27,7 +27,7 @@ pub record IsMoved (table : Table) (now : ℕ) (old : Queued) (waiting : List (R
 
 module _ (table : Table) (now : ℕ) (old : Queued) (waiting urgent : List (Reverse Urgency)) (later rest : List (Reverse Arrival)) (readiness : List Readiness) (moved : IsMoved table now old waiting later readiness) where
   -- one more job is moved
-  IsMoved-one : (next : Arrival) → next.time ≤ now → IsPermutation (record { 0 = key_of table next.no } ∷ waiting) urgent → KeepsHeap urgent_first waiting urgent →
+  IsMoved-one : (next : Arrival) → next.time ≤ now → IsPermutation (record { 0 = urgency_of table next.no } ∷ waiting) urgent → KeepsHeap urgent_first waiting urgent →
       IsPermutation later (record { 0 = next } ∷ rest) → IsHeap soonest_first rest → IsMoved table now old urgent rest readiness
   IsMoved-one next ready pushes keeps pops order = record {
     by_urgency = keeps moved.by_urgency;
@@ -44,7 +44,7 @@ module _ (table : Table) (now : ℕ) (old : Queued) (waiting urgent : List (Reve
       same j =
           omega (
             arith,
-            sum_by_pushed (λ e. cond (waits_as j e) 1 0) (record { 0 = key_of table next.no }) waiting urgent pushes,
+            sum_by_pushed (λ e. cond (waits_as j e) 1 0) (record { 0 = urgency_of table next.no }) waiting urgent pushes,
             sum_by_popped (λ e. cond (comes_as j e) 1 0) (record { 0 = next }) later rest pops,
           )
 
@@ -63,7 +63,7 @@ module _ (table : Table) (now : ℕ) (old : Queued) (waiting urgent : List (Reve
   same_top [] a b some p q = absurd (omega (arith, some))
   same_top (x ∷ xs) a b some p q = q ∙ sym p
 
-  pub IsMoved-more : (next : Arrival) → next.time ≤ now → ◌≡◌ {A = Reverse Arrival} (record { 0 = next }) (get_or later 0 (record { 0 = next })) → IsPermutation (record { 0 = key_of table next.no } ∷ waiting) urgent → KeepsHeap urgent_first waiting urgent →
+  pub IsMoved-more : (next : Arrival) → next.time ≤ now → ◌≡◌ {A = Reverse Arrival} (record { 0 = next }) (get_or later 0 (record { 0 = next })) → IsPermutation (record { 0 = urgency_of table next.no } ∷ waiting) urgent → KeepsHeap urgent_first waiting urgent →
       (popped : Option (Reverse Arrival)) → IsSome popped → IfSome popped (λ x. x ≡ get_or later 0 x) → IfSome popped (λ x. IsPermutation later (x ∷ rest)) →
       IfSome popped (λ x. PopsGreatest soonest_first later x rest) → IsMoved table now old urgent rest readiness
   IsMoved-more next ready top pushes keeps (Some x) some is_top pops order =

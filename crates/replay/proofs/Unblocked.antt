@@ -15,9 +15,7 @@ use Rattle.replay.specs.declared.queues.Readiness.{Readiness}
 use Rattle.replay.specs.Queues.{Queued, AreQueued, Counts, IsComing, IsWaiting, Unblocks, copies, is_dispatched, missing_of, no_readiness, one_less, time_of}
 use Rattle.replay.proofs.Counted.{raised, raised_none, raised_some}
 use Rattle.replay.proofs.InHeaps.{lacks_none, some_copies, some_missing}
-
-true≢false : true ≡ false → ⊥
-true≢false e = cc
+use Rattle.lists.proofs.Orderings.{true≢false}
 
 -- what job s lacks, after it is written
 lacks_at : (readiness : List Readiness) (s : ℕ) (new : Readiness) → 1 ≤ missing_of readiness s → get_or (set readiness s new) s no_readiness ≡ new

@@ -1,4 +1,4 @@
 pub mod Cores
 pub mod Queues
-pub mod Standing
+pub mod Underway
 pub mod ScheduleText

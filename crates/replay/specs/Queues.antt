@@ -5,21 +5,22 @@
 --     time_of readiness j                    when it is ready, as far as those that are dispatched go
 --     copies queued j                        how often job number j is in the heaps
 --     is_dispatched queued j                 job j is in neither heap, and waits for no other job
---     key_of table j                         the urgency of job j, as it waits
+--     urgency_of table j                     the urgency of job j, as it waits
 --     AreQueued table now queued             who waits for a core by the time `now`, and who is ready later
 --     AreCounted table scenario done schedule readiness     what each job lacks, where those jobs are dispatched to these places
 --     HasAll table scenario queued           all jobs are there
---     StaysQueued, IsNextReady, Takes, Counts, Unblocks     what the calls of the queues do
+--     StaysQueued, IsNextReady, TakesFirst, Counts, Unblocks     what the calls of the queues do
 --     IsWithout table now old new j          job j, and no other, has left the heaps
 use Rattle.std.specs.Prelude.{◌≡◌, ◌≢◌, ℕ, ◌+◌, ◌-◌, ◌≤◌, ◌<◌, ◌⊎◌, ◌==◌, ◌&&◌, Bool, true, false, not, List, [], ◌∷◌, length, map, max, filter, slice_index_or, slice_set, if◌then◌else◌, All, Contains, count_by, IsPermutation, MatchBool}
 use Rattle.std.specs.declared.cmp.Ordering.{Ordering}
 use Rattle.std.specs.declared.cmp.Reverse.{Reverse}
 use Rattle.std.specs.Ordering.{nat_cmp, then_cmp, on, flip_args}
 use Rattle.std.specs.BinaryHeap.{IsUpperBound}
-use Rattle.job_model.specs.Numbers.{greatest}
-use Rattle.job_model.specs.Table.{Table, job_at, predecessors}
+use Rattle.lists.specs.Numbers.{greatest}
+use Rattle.job_model.specs.Ranks.{rank_of}
+use Rattle.job_model.specs.Table.{Table, predecessors}
 use Rattle.job_model.specs.Scenario.{release_of}
-use Rattle.run_meaning.specs.declared.Place.{Place}
+use Rattle.run_meaning.specs.declared.places.Place.{Place}
 use Rattle.run_meaning.specs.Ready.{finish_of}
 use Rattle.replay.specs.declared.queues.Arrival.{Arrival}
 use Rattle.replay.specs.declared.queues.Readiness.{Readiness}
@@ -31,9 +32,7 @@ soonest_first = flip_args (on (λ e. e.0) (then_cmp (on (λ e. e.time) nat_cmp) 
 
 -- the more urgent is the greater
 abbrev pub urgent_first : Reverse Urgency → Reverse Urgency → Ordering
-urgent_first =
-    flip_args (on (λ e. e.0) (then_cmp (on (λ e. e.priority) nat_cmp)
-    (then_cmp (on (λ e. e.task) nat_cmp) (then_cmp (on (λ e. e.job) nat_cmp) (on (λ e. e.no) nat_cmp)))))
+urgent_first = flip_args (on (λ e. e.0) (then_cmp (on (λ e. e.rank) nat_cmp) (on (λ e. e.no) nat_cmp)))
 
 -- The elements of the two heaps, and how far each job is from being ready.
 pub record Queued : Type 0 where
@@ -62,13 +61,13 @@ abbrev pub is_dispatched : Queued → ℕ → Bool
 is_dispatched queued j = (copies queued j == 0) && (missing_of queued.readiness j == 0)
 
 -- the urgency of job j
-abbrev pub key_of : Table → ℕ → Urgency
-key_of table j = record { priority = (job_at table j).priority; task = (job_at table j).task; job = (job_at table j).job; no = j }
+abbrev pub urgency_of : Table → ℕ → Urgency
+urgency_of table j = record { rank = rank_of table j; no = j }
 
 -- a job that waits for a core: it is ready by now
 pub record IsWaiting (table : Table) (now : ℕ) (readiness : List Readiness) (e : Reverse Urgency) : Type 0 where
   pub is_job : e.0.no < length table.jobs
-  pub key : e.0 ≡ key_of table e.0.no
+  pub key : e.0 ≡ urgency_of table e.0.no
   pub lacks_none : missing_of readiness e.0.no ≡ 0
   pub ready : time_of readiness e.0.no ≤ now
 
@@ -110,7 +109,7 @@ pub record IsNextReady (queued : Queued) (from t : ℕ) : Type 0 where
   pub there : (0 < length queued.waiting) ⊎ ((e : Reverse Arrival) × Contains queued.later e × (e.0.time ≤ t))
 
 -- This job is taken, and no other that waits is more urgent.
-pub record Takes (old new : Queued) (e : Urgency) : Type 0 where
+pub record TakesFirst (old new : Queued) (e : Urgency) : Type 0 where
   pub taken : IsPermutation old.waiting (record { 0 = e } ∷ new.waiting)
   pub later : new.later ≡ old.later
   pub readiness : new.readiness ≡ old.readiness

@@ -3,9 +3,9 @@
 --     schedule_row table scenario schedule j   the numbers of the row of job number j
 --     schedule_text table scenario schedule    the heading, and a row for each job in the order of dispatch
 use Rattle.std.specs.Prelude.{ℕ, List, [], ◌∷◌, codes, map}
-use Rattle.csv_numbers.specs.TableText.{table_text}
+use Rattle.csv_numbers.specs.RowsText.{rows_text}
 use Rattle.job_model.specs.Table.{Table, job_at}
-use Rattle.run_meaning.specs.declared.Place.{Place}
+use Rattle.run_meaning.specs.declared.places.Place.{Place}
 use Rattle.run_meaning.specs.Order.{dispatch_order}
 use Rattle.run_meaning.specs.Ready.{core_of, finish_of, start_of}
 
@@ -20,4 +20,4 @@ schedule_row table scenario schedule j =
 
 -- the heading, and a row for each job: by start, and at one start by urgency
 abbrev pub schedule_text : Table → List (ℕ × ℕ) → List Place → List ℕ
-schedule_text table scenario schedule = table_text schedule_heading (map (schedule_row table scenario schedule) (dispatch_order table schedule))
+schedule_text table scenario schedule = rows_text schedule_heading (map (schedule_row table scenario schedule) (dispatch_order table schedule))

@@ -1,6 +1,6 @@
 //! When the cores get free.
 ghost use Rattle.std.specs.Prelude.{◌≡◌, ℕ, ◌<◌, ◌≤◌, length, slice_index, EachIndex, MatchOption};
-ghost use Rattle.job_model.specs.declared.TheConstants.{MOST_CORES};
+ghost use Rattle.job_model.specs.declared.limits.TheConstants.{MOST_CORES};
 ghost use Rattle.replay.specs.Cores.{IsFirstFree, IsLowestBy};
 
 /// When the first core is free.

@@ -1,10 +1,13 @@
-//! The dispatcher.
+//! The dispatcher: global scheduling without preemption by job-level fixed priority, as in the model of Nasri, Nelissen and
+//! Brandenburg ("A Response-Time Analysis for Non-Preemptive Job Sets under Global Scheduling", ECRTS 2018, the section on the
+//! system model), for one known scenario. What differs: a job may wait for predecessors, ties are broken by IDs, and each job
+//! takes the lowest idle core.
 ghost use Rattle.std.specs.Prelude.{◌≤◌, IfOk};
-ghost use Rattle.job_model.specs.declared.TheConstants.{MOST_CORES};
+ghost use Rattle.job_model.specs.declared.limits.TheConstants.{MOST_CORES};
 ghost use Rattle.job_model.specs.Table.{IsTable};
 ghost use Rattle.job_model.specs.Scenario.{Fits};
 ghost use Rattle.run_meaning.specs.Legal.{Legal, LowestIdle};
-ghost use Rattle.replay.specs.Standing.{HasTurn, IsNext};
+ghost use Rattle.replay.specs.Underway.{HasTurn, IsNext};
 
 use crate::cores::{first_free, lowest_free};
 use crate::queues::Queues;

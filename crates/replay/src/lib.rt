@@ -9,4 +9,5 @@ mod schedule;
 mod tests;
 
 pub use dispatch::replay;
+pub use run_turns::runs_exist;
 pub use schedule::write_schedule;

@@ -2,7 +2,7 @@
 ghost use Rattle.std.specs.Prelude.{◌≡◌, ◌==◌, ℕ, ◌<◌, ◌≤◌, [], length, All, count_by, IfOk, OnOk, MatchOption};
 ghost use Rattle.job_model.specs.Scenario.{Fits};
 ghost use Rattle.job_model.specs.Table.{successors};
-ghost use Rattle.replay.specs.Queues.{key_of, missing_of, HasAll, StaysQueued, IsNextReady, Takes, Counts, Unblocks};
+ghost use Rattle.replay.specs.Queues.{urgency_of, missing_of, HasAll, StaysQueued, IsNextReady, TakesFirst, Counts, Unblocks};
 
 use job_model::{JobNo, JobTable, Scenario};
 use std::alloc::{AllocError, Global};
@@ -12,14 +12,14 @@ use std::marker::Model;
 
 /// A job that is ready later: the earlier time first.
 #[derive(Clone, Copy, PartialEq, Eq, PartialOrd, Ord)]
-pub struct Arrival {
+pub(crate) struct Arrival {
     time: u64,
     no: JobNo,
 }
 
 /// How far a job is from being ready.
 #[derive(Clone, Copy)]
-pub struct Readiness {
+pub(crate) struct Readiness {
     // how many of its predecessors are not dispatched
     missing: usize,
     // the latest of its release and of the finishes of the others
@@ -28,23 +28,20 @@ pub struct Readiness {
 
 /// A job that waits for a core: the more urgent first.
 #[derive(Clone, Copy, PartialEq, Eq, PartialOrd, Ord)]
-pub struct Urgency {
-    priority: u64,
-    task: u64,
-    job: u64,
+pub(crate) struct Urgency {
+    // how many jobs of the table are more urgent
+    rank: u16,
     pub no: JobNo,
 }
 
 impl Urgency {
+    // That job, with its urgency.
     fn of(table: &JobTable, no: JobNo) -> Urgency
         requires { no < length table.now.jobs }
-        ensures { result ≡ key_of table.now no }
+        ensures { result ≡ urgency_of table.now no }
     {
-        let job = table.job(no);
         Urgency {
-            priority: job.priority,
-            task: job.task,
-            job: job.job,
+            rank: table.rank(no),
             no,
         }
     }
@@ -52,7 +49,7 @@ impl Urgency {
 
 /// The jobs that wait for a core, those that are ready later, and what each job still lacks.
 #[derive(Drop)]
-pub struct Queues {
+pub(crate) struct Queues {
     waiting: BinaryHeap<Reverse<Urgency>>,
     later: BinaryHeap<Reverse<Arrival>>,
     readiness: Vec<Readiness>,
@@ -131,7 +128,7 @@ impl Queues {
 
     /// The most urgent of those that wait, which is then no longer there.
     pub fn take(&mut self) -> Option<Urgency>
-        ensures { MatchOption result (self.old.waiting ≡ []) (Takes self.old self.new) }
+        ensures { MatchOption result (self.old.waiting ≡ []) (TakesFirst self.old self.new) }
     {
         let Reverse(first) = self.waiting.pop()?;
         Some(first)

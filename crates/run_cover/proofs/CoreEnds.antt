@@ -11,8 +11,8 @@ use Rattle.std.proofs.lemmas.List.Elements.{filter-append}
 use Rattle.std.proofs.lemmas.List.Recursion.{max_least}
 use Rattle.job_sets.specs.Subset.{is_member}
 use Rattle.job_sets.proofs.Members.{is_member-at, is_member-filter, is_member-from_filter}
-use Rattle.job_model.specs.Numbers.{greatest}
-use Rattle.run_meaning.specs.declared.Place.{Place}
+use Rattle.lists.specs.Numbers.{greatest}
+use Rattle.run_meaning.specs.declared.places.Place.{Place}
 use Rattle.run_meaning.specs.Ready.{start_of, core_of, finish_of}
 use Rattle.start_windows.proofs.SomeEligible.{greatest-member}
 use Rattle.run_cover.specs.Covers.{core_end, last_start}

@@ -1,86 +1,116 @@
 -- What the test whether a state covers the first jobs of a run comes to.
---     prefix-below, tracked-below        the jobs that are looked at are jobs of the table
---     holds_at                           what each item of a list has
---     covers-tested                      where the parts are true, the state covers the jobs
---     bound-from_covers, set-from_covers and where it does, they are
-use Rattle.std.proofs.Common.{◌≡◌, ℕ, ◌<◌, ◌≤◌, true, List, length, map, ap, arith, sym, ◌∙◌, subst, max, get_or, All, Some}
-use Rattle.std.specs.Prelude.{nat_le, nat_lt, slice_index, slice_get, IsPermutation}
-use Rattle.std.specs.Map.{keys_of}
-use Rattle.std.specs.Cmp.Lexicographic.{as_long}
-use Rattle.std.proofs.lemmas.Bool.{ltb-true}
-use Rattle.std.proofs.lemmas.List.{get_or-map, length-map}
+--     prefix-below           the first jobs are jobs of the table
+--     core_end-same          of the same jobs, in any order, a core has the same end
+--     last_start-greatest    the last start of the first jobs is their greatest
+--     covers-tested          where the parts of the test are true, the state covers the first jobs
+--     tests-from_covers      and where it does, they are
+use Rattle.std.proofs.Common.{◌≡◌, ℕ, zero, suc, ◌+◌, ◌<◌, ◌≤◌, true, List, [], ◌∷◌, ◌++◌, length, map, refl, ap, arith, ⊎_elim, sym, ◌∙◌, max, All, take}
+use Rattle.std.specs.Prelude.{nat_le, nat_lt, slice_index, ◌==◌}
+use Rattle.std.proofs.lemmas.Bool.{eqb-true, false≢true, or_cases}
+use Rattle.std.proofs.lemmas.List.{take_more}
 use Rattle.std.proofs.lemmas.List.Elements.{All-from_recursion, All-take}
-use Rattle.std.proofs.lemmas.Option.{get_or_from_slice_get, slice_get_within}
-use Rattle.job_sets.specs.Subset.{Subset, IsSubset, is_member}
-use Rattle.job_sets.proofs.Additions.{members_fix_set}
-use Rattle.job_sets.proofs.Members.{is_member-at, is_member-from_filter, list_all-member}
-use Rattle.job_model.specs.Numbers.{numbers_below}
+use Rattle.std.specs.Cmp.Lexicographic.{as_long}
+use Rattle.job_sets.specs.Subset.{is_member}
+use Rattle.job_sets.proofs.Members.{is_member-first, is_member-push}
+use Rattle.lists.specs.Numbers.{greatest}
 use Rattle.job_model.specs.Table.{Table}
-use Rattle.sag_time.specs.Sorted.{is_sorted}
-use Rattle.run_meaning.specs.declared.Place.{Place}
-use Rattle.run_meaning.specs.Ready.{finish_of}
+use Rattle.run_meaning.specs.declared.places.Place.{Place}
+use Rattle.run_meaning.specs.Ready.{core_of, finish_of, start_of}
 use Rattle.run_meaning.specs.Order.{dispatch_order}
+use Rattle.run_meaning.proofs.OrderLaws.{length-dispatch_order}
 use Rattle.run_meaning.proofs.Sorted.{dispatch_below}
-use Rattle.sag_step.specs.State.{SystemState, is_tracked}
-use Rattle.sag_step.specs.Shape.{HasShape, IsState}
-use Rattle.run_cover.specs.Covers.{Covers, prefix, core_end, last_start}
-use Rattle.run_cover.proofs.CoversList.{CoversList, list-from_covers, covers-from_list}
+use Rattle.start_windows.proofs.SomeEligible.{greatest-member}
+use Rattle.sag_step.specs.State.{SystemState}
+use Rattle.sag_step.specs.Shape.{HasShape}
+use Rattle.run_cover.specs.Covers.{Covers, core_end, cores_where, last_start, prefix}
+use Rattle.run_cover.proofs.CoreEnds.{core_end-le, greatest-le, last_start-push, le-core_end}
 use Rattle.run_cover.proofs.FinishTimes.{AllHold}
-use Rattle.run_cover.proofs.SortedEnds.{long, certain-from_sorted, sorted-from_certain, possible-from_sorted, sorted-from_possible}
+use Rattle.run_cover.proofs.NextInOrder.{next_in_order}
+use Rattle.run_cover.proofs.NextJob.{IsRun, IsNextJob}
 
 pub prefix-below : (table : Table) (schedule : List Place) (count : ℕ) → All (λ j. j < length table.jobs) (prefix table schedule count)
 prefix-below table schedule count =
     All-take (λ j. j < length table.jobs) count (dispatch_order table schedule) (All-from_recursion (λ j. j < length table.jobs) (dispatch_order table schedule) (dispatch_below table schedule))
 
-pub tracked-below : (table : Table) (m : ℕ) (state : SystemState) → IsState table m state → All (λ e. e.0 < length table.jobs) state.ends
-tracked-below table m state is_state k d below =
-    let j : ℕ = (get_or state.ends k d).0 in
-    let set = state.set.members in
-    let count : length (keys_of state.ends) ≡ length state.ends = length-map state.ends (λ e. e.0) in
-    let is : get_or (keys_of state.ends) k 0 ≡ j = get_or-map (λ e. e.0) state.ends k d 0 below in
-    let listed : is_member j (keys_of state.ends) ≡ true = ap (λ i. is_member i (keys_of state.ends)) (sym is) ∙ is_member-at (keys_of state.ends) k 0 (omega (arith, below, count)) in
-    let member : is_member j set ≡ true = (is_member-from_filter (is_tracked table set) set j (ap (is_member j) (sym is_state.shape.tracked) ∙ listed)).1 in
-    omega (arith, is_state.of_table, ltb-true j state.set.size (list_all-member (λ i. nat_lt i state.set.size) set j is_state.set.in_range member))
+-- of the same jobs, in any order, a core has the same end
+pub core_end-same : (scenario : List (ℕ × ℕ)) (schedule : List Place) (xs ys : List ℕ) → ((j : ℕ) → is_member j xs ≡ is_member j ys) → (core : ℕ) → core_end scenario schedule xs core ≡ core_end scenario schedule ys core
+core_end-same scenario schedule xs ys same core =
+    let up = core_end-le scenario schedule xs core (core_end scenario schedule ys core) (λ i there on_core. le-core_end scenario schedule ys core i (sym (same i) ∙ there) on_core) in
+    let down = core_end-le scenario schedule ys core (core_end scenario schedule xs core) (λ i there on_core. le-core_end scenario schedule xs core i (same i ∙ there) on_core) in
+    omega (arith, up, down)
 
-pub holds_at : {X : Type 0} (P : X → Type 0) (xs : List X) (i : ℕ) (x : X) → slice_get xs i ≡ Some x → All P xs → P x
-holds_at P xs i x here all = subst P (get_or_from_slice_get xs i x x here) (all i x (slice_get_within xs i x here))
+module _ {table : Table} {m : ℕ} {scenario : List (ℕ × ℕ)} {schedule : List Place} (run : IsRun table m scenario schedule) where
+  -- the last start of the first jobs is their greatest
+  pub last_start-greatest : (members : List ℕ) (count : ℕ) → count ≤ length table.jobs → ((j : ℕ) → is_member j members ≡ is_member j (prefix table schedule count)) →
+      greatest (map (start_of schedule) members) ≡ last_start schedule (prefix table schedule count)
+  last_start-greatest members zero fits same =
+      let none : greatest (map (start_of schedule) members) ≤ 0 = greatest-le (start_of schedule) members 0 (λ i there. absurd (false≢true (sym (same i) ∙ there))) in
+      let last : last_start schedule (prefix table schedule 0) ≡ 0 = refl in
+      omega (arith, none, last)
+  last_start-greatest members (suc k) fits same =
+      let j = slice_index (dispatch_order table schedule) k in
+      let jobs = prefix table schedule k in
+      let next : IsNextJob table schedule jobs j = next_in_order run k (omega (arith, fits)) in
+      let more : k + 1 ≡ suc k = omega arith in
+      let whole : prefix table schedule (suc k) ≡ jobs ++ j ∷ [] =
+      ap (λ n. take n (dispatch_order table schedule)) (sym more) ∙ take_more (dispatch_order table schedule) k 0 (omega (arith, length-dispatch_order table schedule, fits)) in
+      let last : last_start schedule (prefix table schedule (suc k)) ≡ start_of schedule j = ap (last_start schedule) whole ∙ last_start-push scenario schedule jobs j in
+      let is = λ (i : ℕ). same i ∙ ap (is_member i) whole ∙ is_member-push i j jobs in
+      let up : greatest (map (start_of schedule) members) ≤ start_of schedule j = greatest-le (start_of schedule) members (start_of schedule j) (λ i there. ⊎_elim
+      (λ (here : (j == i) ≡ true). omega (arith, ap (start_of schedule) (eqb-true j i here)))
+      (λ (old : is_member i jobs ≡ true). next.no_later i old)
+      (or_cases (j == i) (is_member i jobs) (sym (is i) ∙ there))) in
+      let down : start_of schedule j ≤ greatest (map (start_of schedule) members) = greatest-member (start_of schedule) j members (is j ∙ is_member-first j j jobs refl) in
+      omega (arith, up, down, last)
 
-module _ (table : Table) (m : ℕ) (scenario : List (ℕ × ℕ)) (schedule : List Place) (jobs : List ℕ) (state : SystemState) (shape : HasShape table m state)
-    (sorted : List ℕ) (up : is_sorted sorted ≡ true) (moved : IsPermutation (map (core_end scenario schedule jobs) (numbers_below m)) sorted) where
-  abbrev end : ℕ → ℕ
-  end = core_end scenario schedule jobs
+  module _ (state : SystemState) (shape : HasShape table m state) (count : ℕ) (fits : count ≤ length table.jobs) where
+    abbrev set : List ℕ
+    set = state.set.members
 
-  -- the availabilities are right at each place
-  abbrev pub AreBound : Type 0
-  AreBound = (x : ℕ) → x < length sorted → (slice_index state.low x ≤ max (slice_index sorted x) (last_start schedule jobs)) × (slice_index sorted x ≤ slice_index state.high x)
+    abbrev end : ℕ → ℕ
+    end = core_end scenario schedule set
 
-  cores : length sorted ≡ m
-  cores = long m end sorted up moved
+    -- the clauses of `Covers`, of the jobs of the state's set
+    pub record PassesTests : Type 0 where
+      pub same : (j : ℕ) → is_member j state.set.members ≡ is_member j (prefix table schedule count)
+      pub certain : (x : ℕ) → x < length state.high → x < cores_where (length state.high) (λ core. nat_le (core_end scenario schedule state.set.members core) (slice_index state.high x))
+      pub possible : (x : ℕ) → x < length state.low →
+          cores_where (length state.low) (λ core. nat_lt (max (core_end scenario schedule state.set.members core) (greatest (map (start_of schedule) state.set.members))) (slice_index state.low x)) ≤ x
+      pub tracked : AllHold (finish_of scenario schedule) state.ends
+      pub last : (i : ℕ) → is_member i state.last.members ≡ true → finish_of scenario schedule i ≡ core_end scenario schedule state.set.members (core_of schedule i)
 
-  pub low_long : length state.low ≡ length sorted
-  low_long = shape.low_count ∙ sym cores
+    high_long : length state.high ≡ m
+    high_long = sym (as_long nat_le state.low state.high shape.in_order) ∙ shape.low_count
 
-  pub high_long : length state.high ≡ length sorted
-  high_long = sym (as_long nat_le state.low state.high shape.in_order) ∙ low_long
+    module _ (same : (j : ℕ) → is_member j state.set.members ≡ is_member j (prefix table schedule count)) where
+      ends : (core : ℕ) → core_end scenario schedule state.set.members core ≡ core_end scenario schedule (prefix table schedule count) core
+      ends = core_end-same scenario schedule state.set.members (prefix table schedule count) same
 
-  module _ (count : ℕ) (first : jobs ≡ prefix table schedule count) where
-    pub covers-tested : ((j : ℕ) → is_member j state.set.members ≡ is_member j jobs) → AreBound → AllHold (finish_of scenario schedule) state.ends → Covers table m scenario schedule count state
-    covers-tested same bound hold = covers-from_list table m scenario schedule count state (subst (λ l. CoversList m scenario schedule l state) first (record {
-      set = same;
-      certain = certain-from_sorted m end sorted up moved state.high (λ x h. (bound x (omega (arith, h, cores))).1);
-      possible = possible-from_sorted m end sorted up moved (last_start schedule jobs) state.low (λ x h. (bound x (omega (arith, h, cores))).0);
-      tracked = hold;
-    }))
+      start : greatest (map (start_of schedule) state.set.members) ≡ last_start schedule (prefix table schedule count)
+      start = last_start-greatest state.set.members count fits same
 
-    pub bound-from_covers : Covers table m scenario schedule count state → AreBound
-    bound-from_covers covers x h =
-        let list : CoversList m scenario schedule jobs state = subst (λ l. CoversList m scenario schedule l state) (sym first) (list-from_covers table m scenario schedule count state covers) in (
-          sorted-from_possible m end sorted up moved (last_start schedule jobs) state.low list.possible x (omega (arith, h, cores)),
-          sorted-from_certain m end sorted up moved state.high list.certain x (omega (arith, h, cores)),
-        )
+      certain_is : (x : ℕ) → cores_where (length state.high) (λ core. nat_le (core_end scenario schedule state.set.members core) (slice_index state.high x))
+          ≡ cores_where m (λ core. nat_le (core_end scenario schedule (prefix table schedule count) core) (slice_index state.high x))
+      certain_is x = λ k. cores_where (high_long k) (λ core. nat_le (ends core k) (slice_index state.high x))
 
--- the set of the first jobs is that of a state that covers them
-pub set-from_covers : (table : Table) (m : ℕ) (scenario : List (ℕ × ℕ)) (schedule : List Place) (jobs : List ℕ) (count : ℕ) (state : SystemState) (set : Subset) → jobs ≡ prefix table schedule count →
-    IsState table m state → IsSubset set → set.size ≡ length table.jobs → ((j : ℕ) → is_member j set.members ≡ is_member j jobs) → Covers table m scenario schedule count state → state.set ≡ set
-set-from_covers table m scenario schedule jobs count state set first is_state is_set size same covers =
-    members_fix_set state.set set is_state.set is_set (is_state.of_table ∙ sym size) (λ j. covers.set j ∙ ap (is_member j) (sym first) ∙ sym (same j))
+      possible_is : (x : ℕ) → cores_where (length state.low) (λ core. nat_lt (max (core_end scenario schedule state.set.members core) (greatest (map (start_of schedule) state.set.members))) (slice_index state.low x))
+          ≡ cores_where m (λ core. nat_lt (max (core_end scenario schedule (prefix table schedule count) core) (last_start schedule (prefix table schedule count))) (slice_index state.low x))
+      possible_is x = λ k. cores_where (shape.low_count k) (λ core. nat_lt (max (ends core k) (start k)) (slice_index state.low x))
+
+    pub covers-tested : PassesTests → Covers table m scenario schedule count state
+    covers-tested t = record {
+      set = t.same;
+      certain = λ x below. omega (arith, t.certain x (omega (arith, below, high_long)), certain_is t.same x);
+      possible = λ x below. omega (arith, t.possible x (omega (arith, below, shape.low_count)), possible_is t.same x);
+      tracked = t.tracked;
+      last = λ i there. t.last i there ∙ ends t.same (core_of schedule i);
+    }
+
+    pub tests-from_covers : Covers table m scenario schedule count state → PassesTests
+    tests-from_covers c = record {
+      same = c.set;
+      certain = λ x below. omega (arith, c.certain x (omega (arith, below, high_long)), certain_is c.set x);
+      possible = λ x below. omega (arith, c.possible x (omega (arith, below, shape.low_count)), possible_is c.set x);
+      tracked = c.tracked;
+      last = λ i there. c.last i there ∙ sym (ends c.set (core_of schedule i));
+    }

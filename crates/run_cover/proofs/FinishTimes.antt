@@ -2,16 +2,14 @@
 --     AllHold f ends                       each interval holds what f has at its job
 --     low_end-le, le-high_end              so do those that are looked up
 --     All-insert_entry, All-still_tracked  what each entry has, after one is added, and of those that are still of use
+--     AllHold-cut                          and so do those that are cut
 --     tracked-predecessor                  a dispatched predecessor of a job that is not is tracked
-use Rattle.std.proofs.Common.{◌≡◌, ℕ, ◌<◌, ◌≤◌, Bool, true, false, cond, List, [], ◌∷◌, map, filter, refl, ap, arith, inl, inr, ⊎_elim, ◌⊎◌, sym, ◌∙◌, subst, All, Some, Less, Equal, Greater, Ordering}
+use Rattle.std.proofs.Common.{◌≡◌, ℕ, ◌≤◌, Bool, true, false, cond, List, [], ◌∷◌, map, filter, refl, ap, arith, inl, inr, ⊎_elim, ◌⊎◌, sym, ◌∙◌, min, All, Some}
 use Rattle.std.specs.Prelude.{nat_le, nat_eq, IsTrue, ◌==◌, not}
 use Rattle.std.specs.Map.{keys_of, lookup}
 use Rattle.std.specs.Option.{option_map_or}
-use Rattle.std.specs.Ordering.{nat_cmp, MatchOrdering, match_ordering}
-use Rattle.std.specs.BTreeMap.{insert_entry}
-use Rattle.std.proofs.lemmas.Bool.{and_parts, eqb-true, eq-eqb, leb-true, false≢true}
+use Rattle.std.proofs.lemmas.Bool.{and_parts, and_from, eqb-true, eq-eqb, leb-true, le-leb, false≢true}
 use Rattle.std.proofs.lemmas.List.Elements.{All-head, All-tail, All-cons, All-nil, All-filter}
-use Rattle.std.proofs.lemmas.Cmp.{ranked}
 use Rattle.job_sets.specs.Subset.{is_member}
 use Rattle.job_sets.proofs.Members.{is_member-cons, is_member-first, is_member-rest, is_member-filter, list_any-from_member}
 use Rattle.job_model.specs.Neighbours.{sources, targets}
@@ -19,7 +17,7 @@ use Rattle.job_model.specs.Table.{Table, predecessors, successors}
 use Rattle.sag_time.specs.Interval.{Interval, holds}
 use Rattle.start_windows.specs.Ends.{low_end, high_end}
 use Rattle.sag_step.specs.State.{is_tracked, tracked_jobs}
-use Rattle.sag_step.specs.Next.{still_tracked}
+use Rattle.sag_step.specs.Next.{cut_end, cut_ends, still_tracked}
 
 module _ (f : ℕ → ℕ) where
   -- each interval holds what f has at its job
@@ -48,20 +46,23 @@ module _ (f : ℕ → ℕ) where
       at false is here (inl same) rest = absurd (false≢true (sym is ∙ eq-eqb i e.0 (sym same)))
       at false is here (inr later) rest = rest later
 
--- the entry in its place, where each entry and the new one has the property
-pub All-insert_entry : (P : ℕ × Interval → Type 0) (es : List (ℕ × Interval)) (k : ℕ) (v : Interval) → All P es → P (k, v) → All P (insert_entry nat_cmp es k v)
-All-insert_entry P [] k v all new = All-cons P (k, v) [] new (All-nil P)
-All-insert_entry P (e ∷ es) k v all new =
-    at (nat_cmp k e.0) (ranked k e.0 (nat_cmp k e.0) refl) (All-head P e es all) (All-tail P e es all) (All-insert_entry P es k v (All-tail P e es all) new)
-  where
-    at : (o : Ordering) → MatchOrdering o (k < e.0) (k ≡ e.0) (e.0 < k) → P e → All P es → All P (insert_entry nat_cmp es k v) →
-        All P (match_ordering o ((k, v) ∷ e ∷ es) ((e.0, v) ∷ es) (e ∷ insert_entry nat_cmp es k v))
-    at Less is first others rest = All-cons P (k, v) (e ∷ es) new (All-cons P e es first others)
-    at Equal is first others rest = All-cons P (e.0, v) es (subst (λ n. P (n, v)) is new) others
-    at Greater is first others rest = All-cons P e (insert_entry nat_cmp es k v) first rest
-
 pub All-still_tracked : (P : ℕ × Interval → Type 0) (table : Table) (set : List ℕ) (es : List (ℕ × Interval)) → All P es → All P (still_tracked table set es)
 All-still_tracked P table set es all = All-filter (λ e. is_tracked table set e.0) P es all
+
+-- where predecessors of a job finish by its latest start, their intervals may end there
+pub AllHold-cut : (f : ℕ → ℕ) (table : Table) (j lst : ℕ) (ends : List (ℕ × Interval)) → ((i : ℕ) → is_member i (predecessors table j) ≡ true → f i ≤ lst) → AllHold f ends → AllHold f (cut_ends table j lst ends)
+AllHold-cut f table j lst [] done all = All-nil (λ e. IsTrue (holds e.1 (f e.0)))
+AllHold-cut f table j lst (e ∷ es) done all =
+    All-cons (λ e. IsTrue (holds e.1 (f e.0))) (cut_end table j lst e) (cut_ends table j lst es)
+    (at (is_member e.0 (predecessors table j)) refl (All-head (λ e. IsTrue (holds e.1 (f e.0))) e es all))
+    (AllHold-cut f table j lst es done (All-tail (λ e. IsTrue (holds e.1 (f e.0))) e es all))
+  where
+    at : (b : Bool) → is_member e.0 (predecessors table j) ≡ b → holds e.1 (f e.0) ≡ true → holds (cond b (record { lo = e.1.lo; hi = min e.1.hi lst }) e.1) (f e.0) ≡ true
+    at false is here = here
+    at true is here =
+        let parts = and_parts (nat_le e.1.lo (f e.0)) (nat_le (f e.0) e.1.hi) here in
+        and_from (nat_le e.1.lo (f e.0)) (nat_le (f e.0) (min e.1.hi lst)) parts.0
+        (le-leb (f e.0) (min e.1.hi lst) (omega (arith, leb-true (f e.0) e.1.hi parts.1, done e.0 is)))
 
 -- an edge, seen from both ends
 target-from_source : (edges : List (ℕ × ℕ)) (i x : ℕ) → is_member i (sources edges x) ≡ true → is_member x (targets edges i) ≡ true

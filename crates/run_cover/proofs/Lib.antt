@@ -4,11 +4,12 @@ mod CoreEnds
 mod FinishTimes
 mod CoversList
 mod NextJob
+mod Pigeons
 mod NextInOrder
+mod SeenJobs
+mod CoverTest
 mod WindowHolds
 mod WiderCovers
 mod StepCovers
 mod RootCovers
-mod SortedEnds
-mod CoverTest
 mod Rows

@@ -11,13 +11,14 @@ use Rattle.job_sets.specs.Subset.{is_member}
 use Rattle.job_sets.proofs.Members.{is_member-at, Contains-from_member}
 use Rattle.job_model.specs.Urgency.{urgency_cmp}
 use Rattle.job_model.specs.Table.{Table, job_at, predecessors, has_urgency_over}
-use Rattle.run_meaning.specs.declared.Place.{Place}
+use Rattle.run_meaning.specs.declared.places.Place.{Place}
 use Rattle.run_meaning.specs.Ready.{start_of}
 use Rattle.run_meaning.specs.Order.{dispatch_order, starts_earlier}
 use Rattle.run_meaning.proofs.OrderLaws.{length-dispatch_order}
 use Rattle.run_meaning.proofs.OrderMembers.{placed}
 use Rattle.run_meaning.proofs.StartsAgree.{predecessors_below}
-use Rattle.run_meaning.proofs.Sorted.{recursion_at, dispatch_below, dispatch_sorted, earlier_one_way, earlier-start, predecessors_come_earlier}
+use Rattle.run_meaning.proofs.Sorted.{dispatch_below, dispatch_sorted, earlier_one_way, earlier-start, predecessors_come_earlier}
+use Rattle.lists.proofs.Elements.{recursion_at}
 use Rattle.run_cover.proofs.NextJob.{IsRun, IsNextJob}
 
 module _ (table : Table) (schedule : List Place) where

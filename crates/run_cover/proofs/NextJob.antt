@@ -10,10 +10,10 @@ use Rattle.std.specs.Prelude.{IsTrue}
 use Rattle.std.proofs.lemmas.Bool.{false≢true}
 use Rattle.job_sets.specs.Subset.{is_member}
 use Rattle.job_sets.proofs.Members.{is_member-at}
-use Rattle.job_model.specs.Numbers.{greatest}
+use Rattle.lists.specs.Numbers.{greatest}
 use Rattle.job_model.specs.Table.{Table, IsTable, job_at, predecessors, has_urgency_over}
 use Rattle.job_model.specs.Scenario.{Fits, release_of, cost_of}
-use Rattle.run_meaning.specs.declared.Place.{Place}
+use Rattle.run_meaning.specs.declared.places.Place.{Place}
 use Rattle.run_meaning.specs.Ready.{start_of, core_of, finish_of, ready_time}
 use Rattle.run_meaning.specs.Legal.{Legal}
 use Rattle.run_meaning.proofs.StartsAgree.{cost_positive, ready_by}

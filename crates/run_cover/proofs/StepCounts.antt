@@ -2,12 +2,14 @@
 --     AreCertain m g high, ArePossible m g low      the two clauses of `Covers`, for g in place of the ends of the cores
 --     certain-counts, certain-from_counts           the first says for every moment: no more places than cores
 --     possible-counts, possible-from_counts         the second: no more cores than places
+--     certain-cap_first                             a cap by which so many cores are free keeps the first
 --     certain-step, possible-step                   a start on one core keeps them
-use Rattle.std.proofs.Common.{◌≡◌, ◌≢◌, ℕ, ◌+◌, ◌-◌, ◌<◌, ◌≤◌, true, List, length, arith, ⊎_elim, max, get_or, ◌∙◌}
+use Rattle.std.proofs.Common.{◌≡◌, ◌≢◌, ℕ, ◌+◌, ◌-◌, ◌<◌, ◌≤◌, true, List, length, arith, ⊎_elim, max, min, get_or, sym, subst, ◌∙◌}
 use Rattle.std.specs.Prelude.{nat_le, nat_lt, slice_index}
 use Rattle.std.proofs.lemmas.Bool.{ltb-true, leb-true, le-leb, lt-ltb, le-ltb, cases_lt}
 use Rattle.std.proofs.lemmas.List.Sums.{count_by-le-length}
-use Rattle.sag_time.specs.Sorted.{is_sorted, after_start}
+use Rattle.sag_time.specs.Sorted.{is_sorted, after_start, cap_first}
+use Rattle.sag_time.proofs.CapFirst.{cap_first-place}
 use Rattle.sag_time.proofs.Counts.{one_if, one_if-le, one_if-true, one_if-mono}
 use Rattle.sag_time.proofs.SortedCounts.{upto, below, upto-place, place-upto, below-place, place-below}
 use Rattle.sag_time.proofs.SortedLists.{is_sorted-after_start, length-after_start}
@@ -64,6 +66,26 @@ module _ (m : ℕ) (g : ℕ → ℕ) where
       let v = get_or low x 0 in
       let place : below v low ≤ x = below-place low x sorted (omega (arith, h, long)) in
       omega (arith, place, counts v)
+
+-- where n cores are free by the cap, the capped list is certain
+pub certain-cap_first : (m : ℕ) (g : ℕ → ℕ) (low : List ℕ) (n cap : ℕ) (high : List ℕ) → n ≤ cores_where m (λ core. nat_le (g core) cap) → AreCertain m g high → AreCertain m g (cap_first low n cap high)
+certain-cap_first m g low n cap high some certain x below =
+    let v = get_or (cap_first low n cap high) x 0 in
+    let h = get_or high x 0 in
+    ⊎_elim
+    (λ (same : v ≡ h). subst (λ t. x < cores_where m (λ core. nat_le (g core) t)) (sym same) (certain x below))
+    (λ (less : (x < n) × (min h cap ≤ v)). ⊎_elim
+    (λ (by_cap : cap < h).
+    let more : cores_where m (λ core. nat_le (g core) cap) ≤ cores_where m (λ core. nat_le (g core) v) =
+    cores_where-mono m (λ core. nat_le (g core) cap) (λ core. nat_le (g core) v) (λ core e. le-leb (g core) v (omega (arith, leb-true (g core) cap e, less.1, by_cap))) in
+    omega (arith, more, some, less.0))
+    (λ (by_high : h ≤ cap).
+    let more : cores_where m (λ core. nat_le (g core) h) ≤ cores_where m (λ core. nat_le (g core) v) =
+    cores_where-mono m (λ core. nat_le (g core) h) (λ core. nat_le (g core) v) (λ core e. le-leb (g core) v (omega (arith, leb-true (g core) h e, less.1, by_high))) in
+    let here : x < cores_where m (λ core. nat_le (g core) h) = certain x below in
+    omega (arith, more, here))
+    (cases_lt cap h))
+    (cap_first-place low n cap high x)
 
 -- ---- a job starts on core d, and the ends of the other cores stay
 

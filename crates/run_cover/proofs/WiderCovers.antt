@@ -5,6 +5,7 @@ use Rattle.std.specs.Cmp.Lexicographic.{pointwise, bytes_decides}
 use Rattle.std.proofs.lemmas.Bool.{and_parts, leb-true, le-leb, ltb-true, lt-ltb, eqb-true, false≢true}
 use Rattle.std.proofs.lemmas.List.Elements.{All-head, All-tail, All-cons, All-nil}
 use Rattle.job_sets.specs.Subset.{is_member}
+use Rattle.job_sets.proofs.Members.{list_all-member}
 use Rattle.sag_time.specs.Interval.{Interval, holds, covers}
 use Rattle.sag_time.proofs.IntervalLaws.{holds-covers}
 use Rattle.sag_time.proofs.SortedLists.{pointwise-place}
@@ -47,4 +48,5 @@ wider_covers table m scenario schedule count wide state h c =
           (λ core e. lt-ltb (free core) (slice_index state.low x) (omega (arith, ltb-true (free core) (slice_index wide.low x) e, pointwise-place wide.low state.low x wider.low))) in
           omega (arith, fewer, c.possible x below);
       tracked = AllHold-wider (finish_of scenario schedule) wide.ends state.ends wider.ends c.tracked;
+      last = λ i there. c.last i (list_all-member (λ k. is_member k state.last.members) wide.last.members i wider.last there);
     }

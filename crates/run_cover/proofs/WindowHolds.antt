@@ -11,14 +11,14 @@ use Rattle.std.proofs.lemmas.Bool.{cases_Bool, cases_eq, cases_lt, and_parts, an
 use Rattle.std.proofs.lemmas.List.Elements.{filter_passes, recursion_from_All}
 use Rattle.job_sets.specs.Subset.{is_member}
 use Rattle.job_sets.proofs.Members.{is_member-filter, is_member-range, list_all-member, list_all-from_members}
-use Rattle.job_model.specs.Numbers.{greatest, least, numbers_below}
+use Rattle.lists.specs.Numbers.{greatest, least, numbers_below}
 use Rattle.job_model.specs.Table.{Table, job_at, predecessors, has_urgency_over}
 use Rattle.job_model.specs.Scenario.{release_of}
 use Rattle.job_model.proofs.UrgencyLaws.{urgent_itself, urgent_one_way}
-use Rattle.run_meaning.specs.declared.Place.{Place}
+use Rattle.run_meaning.specs.declared.places.Place.{Place}
 use Rattle.run_meaning.specs.Ready.{start_of, core_of, finish_of, ready_time}
 use Rattle.run_meaning.specs.Legal.{IsHeldBack, IsBusy}
-use Rattle.run_meaning.proofs.Sorted.{recursion_weaker}
+use Rattle.lists.proofs.Elements.{recursion_weaker}
 use Rattle.start_windows.specs.declared.StartWindow.{StartWindow}
 use Rattle.start_windows.specs.Ends.{low_end, high_end}
 use Rattle.start_windows.specs.Window.{is_candidate, candidates, earliest_ready, latest_ready, earliest_start, certain_start, ready_beside, overtaken_from, is_before, last_before}

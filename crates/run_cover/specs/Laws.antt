@@ -7,7 +7,7 @@ use Rattle.std.specs.Prelude.{ℕ, List, ◌+◌, ◌≤◌, ◌<◌, length, sl
 use Rattle.job_model.specs.Table.{Table, IsTable}
 use Rattle.job_model.specs.Scenario.{Fits}
 use Rattle.start_windows.specs.declared.StartWindow.{StartWindow}
-use Rattle.run_meaning.specs.declared.Place.{Place}
+use Rattle.run_meaning.specs.declared.places.Place.{Place}
 use Rattle.run_meaning.specs.Ready.{start_of}
 use Rattle.run_meaning.specs.Legal.{Legal}
 use Rattle.run_meaning.specs.Order.{dispatch_order}

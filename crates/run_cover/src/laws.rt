@@ -1,4 +1,4 @@
-// Laws: all runs are covered.
+//! Laws: all runs are covered.
 
 ghost use Rattle.run_cover.specs.Laws.{RootCovers, StepsCover, WiderCovers};
 

@@ -1,6 +1,8 @@
 //! Every legal run is covered by the schedule-abstraction graph, state by state.
 #![tactic(auto)]
 
+mod core_times;
+mod dispatched;
 mod first_jobs;
 mod laws;
 #[cfg(test)]

@@ -1,5 +1,10 @@
+//! Worked runs, prefix by prefix.
+
 ghost use Rattle.std.specs.List.{list_all};
 ghost use Rattle.std.specs.Prelude.{◌≡◌, [], ◌∷◌, IfSome, IsTrue, nat_le};
+ghost use Rattle.job_model.proofs.Tables.{table_b};
+ghost use Rattle.job_model.specs.Scenario.{Fits};
+ghost use Rattle.run_meaning.specs.Legal.{Legal};
 ghost use Rattle.sag_step.specs.Shape.{Shaped};
 ghost use Rattle.sag_step.specs.declared.TheConstants.{MOST_TIME};
 
@@ -12,15 +17,103 @@ use sag_time::{Avail, Span};
 use start_windows::Ends;
 use std::alloc::Global;
 
-// The jobs, as a set.
-fn set_of(alloc: Global, size: u16, jobs: &[u16]) -> Option<JobSet>
+// Three jobs, of which the last waits for the first.
+fn table(alloc: Global) -> Option<JobTable>
+    ensures { IfSome result (λ t. t ≡ table_b) }
+{
+    let first = Job {
+        task: 1,
+        job: 1,
+        rmin: 0,
+        rmax: 0,
+        cmin: 2,
+        cmax: 4,
+        deadline: 10,
+        priority: 1,
+    };
+    let second = Job {
+        task: 2,
+        cmin: 1,
+        cmax: 1,
+        priority: 2,
+        ..first
+    };
+    let third = Job {
+        task: 3,
+        cmin: 1,
+        cmax: 2,
+        deadline: 6,
+        priority: 3,
+        ..first
+    };
+    let rows = vec![in alloc; first, second, third].ok()?;
+    let table = JobTable::from_rows(alloc, rows).ok()?;
+    let edges = [(JobNo(0), JobNo(2))];
+    table.with_edges(alloc, &edges).ok()
+}
+
+// The first job costs 4, the second 1, and the third 2.
+#[derive(Drop)]
+struct Run {
+    table: JobTable,
+    scenario: Scenario,
+    schedule: Schedule,
+}
+
+// The run with these places.
+fn run_at(alloc: Global, places: Vec<Place>) -> Option<Run>
+    ensures table { IfSome result (λ r. r.table ≡ table_b) }
+    ensures scenario { IfSome result (λ r. r.scenario ≡ (0, 4) ∷ (0, 1) ∷ (0, 2) ∷ []) }
+    ensures fits { IfSome result (λ r. Fits r.table r.scenario) }
+    ensures schedule { IfSome result (λ r. r.schedule ≡ places.items) }
+{
+    let table = table(alloc)?;
+    let rows = vec![in alloc; (0, 4), (0, 1), (0, 2)].ok()?;
+    let scenario = Scenario::new(&table, rows)?;
+    Some(Run {
+        table,
+        scenario,
+        schedule: Schedule { places },
+    })
+}
+
+// On two cores the first two jobs start at 0, and the third once the first has finished.
+fn on_two_cores(alloc: Global) -> Option<Run>
+    ensures fits { IfSome result (λ r. Fits r.table r.scenario) }
+    ensures legal { IfSome result (λ r. Legal r.table 2 r.scenario r.schedule) }
+{
+    let places = vec![in alloc;
+        Place { start: 0, core: 0 },
+        Place { start: 0, core: 1 },
+        Place { start: 4, core: 0 },
+    ]
+    .ok()?;
+    let run = run_at(alloc, places)?;
+    Some(run)
+}
+
+// On one core they run one after another.
+fn on_one_core(alloc: Global) -> Option<Run>
+    ensures fits { IfSome result (λ r. Fits r.table r.scenario) }
+    ensures legal { IfSome result (λ r. Legal r.table 1 r.scenario r.schedule) }
+{
+    let places = vec![in alloc;
+        Place { start: 0, core: 0 },
+        Place { start: 4, core: 0 },
+        Place { start: 5, core: 0 },
+    ]
+    .ok()?;
+    let run = run_at(alloc, places)?;
+    Some(run)
+}
+
+// The set of the first jobs, so many.
+fn first_of(alloc: Global, size: u16, count: u16) -> Option<JobSet>
     ensures { IfSome result (λ set. set.size ≡ size) }
 {
     let mut set = JobSet::empty(alloc, size).ok()?;
-    for job in jobs {
-        if *job < size {
-            set.add(JobNo(*job));
-        }
+    for no in 0..count.min(size) {
+        set.add(JobNo(no));
     }
     Some(set)
 }
@@ -42,15 +135,16 @@ fn avail(alloc: Global, times: &[u64]) -> Option<Avail>
     Avail::from_list(times.to_vec(alloc).ok()?)
 }
 
-// The list of job 0's end, if there is one.
-fn ends_of(alloc: Global, end: Option<Span>) -> Option<Ends>
+// The list in which the first job finishes from 2 to `latest`, or the empty one where that is 0.
+fn ends_of(alloc: Global, latest: u64) -> Option<Ends>
     ensures { IfSome result (λ ends.
         IsTrue (list_all (λ e. nat_le e.1.hi MOST_TIME) ends.items)) }
 {
     let mut ends = Ends::with_room(alloc, 1).ok()?;
-    let Some(span) = end else {
+    if latest == 0 {
         return Some(ends);
-    };
+    }
+    let span = Span::new(2, latest)?;
     if span.hi() > MOST_TIME {
         return None;
     }
@@ -58,97 +152,79 @@ fn ends_of(alloc: Global, end: Option<Span>) -> Option<Ends>
     Some(ends)
 }
 
-// The state of these parts, if it is one on so many cores.
-fn state_of(
-    alloc: Global,
-    table: &JobTable,
-    cores: u16,
-    jobs: &[u16],
-    low: &[u64],
-    high: &[u64],
-    end: Option<Span>,
-) -> Option<State>
+// What a state says: the first jobs, so many, have started; from when on cores are possibly and
+// certainly free; by when the first job finishes, or 0 where no job waits for it; and that the first
+// of them, so many, are last on their cores.
+type Parts<'a> = (u16, &'a [u64], &'a [u64], u64, u16);
+
+// The state of these parts, if it is one.
+fn state_of(alloc: Global, table: &JobTable, cores: u16, parts: Parts<'_>) -> Option<State>
     ensures { IfSome result (λ s. Shaped table.now cores s.state) }
 {
-    let set = set_of(alloc, table.len(), jobs)?;
+    let (started, low, high, latest, last) = parts;
+    let set = first_of(alloc, table.len(), started)?;
+    let last = first_of(alloc, table.len(), last)?;
+    let ends = ends_of(alloc, latest)?;
     let low = avail(alloc, low)?;
     let high = avail(alloc, high)?;
-    let ends = ends_of(alloc, end)?;
-    State::from_parts(table, cores, set, low, high, ends)
+    State::from_parts(table, cores, set, low, high, ends, last)
 }
 
-// The two jobs.
-fn two(alloc: Global, first: Job, second: Job) -> Option<Vec<Job>>
-    ensures { IfSome result (λ rows. rows.items ≡ first ∷ second ∷ []) }
+// Whether the state of these parts covers the first jobs of the run, so many.
+fn covers(alloc: Global, run: &Run, cores: u16, count: u16, parts: Parts<'_>) -> Option<bool>
+    requires fits { Fits run.now.table run.now.scenario }
+    requires legal { Legal run.now.table cores run.now.scenario run.now.schedule }
 {
-    let mut rows = Vec::with_capacity(alloc, 2).ok()?;
-    rows.push(first).ok()?;
-    rows.push(second).ok()?;
-    Some(rows)
-}
-
-// Whether the state of these jobs, with a core free from `low` to `high`, covers the first jobs of a run on one core: the second job
-// runs from 0 to 3, and the first from 3 to 5.
-fn covers_blocked(alloc: Global, count: u16, jobs: &[u16], low: u64, high: u64) -> Option<bool> {
-    let first = Job {
-        task: 1,
-        job: 1,
-        rmin: 0,
-        rmax: 1,
-        cmin: 1,
-        cmax: 2,
-        deadline: 5,
-        priority: 1,
-    };
-    let second = Job {
-        task: 2,
-        rmax: 0,
-        cmin: 2,
-        cmax: 3,
-        deadline: 9,
-        priority: 2,
-        ..first
-    };
-    let rows = two(alloc, first, second)?;
-    let table = JobTable::from_rows(alloc, rows).ok()?;
-    let scenario = Scenario::new(&table, vec![in alloc; (1, 2), (0, 3)].ok()?)?;
-    let places = vec![in alloc; Place { start: 3, core: 0 }, Place { start: 0, core: 0 }].ok()?;
-    if count > table.len() {
+    let state = state_of(alloc, &run.table, cores, parts)?;
+    if count > run.table.len() {
         return None;
     }
-    let state = state_of(alloc, &table, 1, jobs, &[low], &[high], None)?;
-    replayed(
-        alloc,
-        &table,
-        &scenario,
-        &Schedule { places },
-        1,
-        count,
+    Some(replayed(
+        &run.table,
+        cores,
+        &run.scenario,
+        &run.schedule,
         &state,
-    )
-    .ok()
+        count,
+    ))
 }
 
 #[test]
 fn tells_whether_a_state_covers_a_run(rt: HostRuntime) {
     let alloc = rt.alloc();
-    let cases = [
-        (0, [].as_slice(), (0, 0), true),
-        (0, [].as_slice(), (1, 1), false),
-        (1, [1].as_slice(), (2, 3), true),
-        (1, [0].as_slice(), (1, 2), false),
-        (1, [1].as_slice(), (2, 2), false),
-        (1, [1].as_slice(), (4, 4), false),
-        (2, [0, 1].as_slice(), (3, 5), true),
-        (2, [0, 1].as_slice(), (3, 4), false),
+    let Some(run) = on_two_cores(alloc) else {
+        panic!(rt; "there is memory");
+    };
+    let cases: [(u16, Parts<'_>, bool); 10] = [
+        (0, (0, &[0, 0], &[0, 0], 0, 0), true),
+        (1, (1, &[0, 2], &[0, 4], 4, 1), true),
+        (1, (1, &[0, 2], &[0, 4], 4, 0), true),
+        (2, (2, &[1, 2], &[1, 4], 4, 1), true),
+        (3, (3, &[2, 3], &[4, 6], 0, 0), true),
+        (1, (0, &[0, 0], &[0, 0], 0, 0), false),
+        (2, (1, &[0, 2], &[0, 4], 4, 1), false),
+        (2, (2, &[2, 2], &[2, 4], 4, 1), false),
+        (2, (2, &[1, 2], &[1, 3], 4, 1), false),
+        (2, (2, &[1, 2], &[1, 4], 3, 1), false),
     ];
-    for (count, jobs, (low, high), expected) in cases {
-        assert_eq!(rt;
-            covers_blocked(alloc, count, jobs, low, high),
-            Some(expected)
-        );
+    for (count, parts, expected) in cases {
+        assert_eq!(rt; covers(alloc, &run, 2, count, parts), Some(expected));
     }
     root_covers();
     steps_cover();
     wider_states_cover();
+}
+
+#[test]
+fn a_job_is_last_on_its_core_until_the_next(rt: HostRuntime) {
+    let alloc = rt.alloc();
+    let Some(run) = on_one_core(alloc) else {
+        panic!(rt; "there is memory");
+    };
+    for (last, expected) in [(0, true), (1, false)] {
+        assert_eq!(rt;
+            covers(alloc, &run, 1, 2, (2, &[3], &[5], 4, last)),
+            Some(expected)
+        );
+    }
 }

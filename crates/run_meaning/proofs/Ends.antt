@@ -3,21 +3,20 @@ use Rattle.std.proofs.Common.{◌≡◌, ℕ, ◌+◌, ◌*◌, ◌<◌, ◌≤�
 use Rattle.std.proofs.Math.Nat.{mul-le-mul_right}
 use Rattle.std.proofs.lemmas.Bool.{cases_lt, cases_order}
 use Rattle.std.proofs.lemmas.List.{get_or_default}
-use Rattle.job_model.specs.declared.TheConstants.{MOST_ARRIVAL, MOST_COST, MOST_JOBS}
+use Rattle.job_model.specs.declared.limits.TheConstants.{MOST_ARRIVAL, MOST_COST, MOST_JOBS}
 use Rattle.job_model.specs.Table.{Table, IsTable, no_job, predecessors}
 use Rattle.job_model.specs.Scenario.{Fits, release_of}
-use Rattle.run_meaning.specs.declared.Place.{Place}
+use Rattle.run_meaning.specs.declared.places.Place.{Place}
 use Rattle.run_meaning.specs.Ready.{start_of, finish_of, ready_time}
 use Rattle.run_meaning.specs.Legal.{Legal, IsBusy}
 use Rattle.run_meaning.specs.Order.{dispatch_order, starts_earlier}
 use Rattle.run_meaning.specs.Laws.{RunsEnd}
 use Rattle.run_meaning.proofs.OrderLaws.{length-dispatch_order}
 use Rattle.run_meaning.proofs.OrderMembers.{Placed, placed}
-use Rattle.run_meaning.proofs.Sorted.{dispatch_below, dispatch_sorted, earlier-start, earlier_one_way, predecessors_come_earlier, recursion_at}
+use Rattle.run_meaning.proofs.Sorted.{dispatch_below, dispatch_sorted, earlier-start, earlier_one_way, predecessors_come_earlier}
+use Rattle.lists.proofs.Elements.{recursion_at}
 use Rattle.run_meaning.proofs.StartsAgree.{by_lesser, predecessors_below, ready_by}
-
-true≢false : true ≡ false → ⊥
-true≢false e = cc
+use Rattle.lists.proofs.Orderings.{true≢false}
 
 -- the latest finish of the first k jobs
 abbrev pub end_limit : ℕ → ℕ

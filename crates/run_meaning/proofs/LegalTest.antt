@@ -5,14 +5,12 @@ use Rattle.std.specs.List.{list_all, list_any, range_with_len}
 use Rattle.std.proofs.lemmas.Bool.{and_parts, or_cases, ltb-true, leb-true, eqb-true, eq-eqb, not-true}
 use Rattle.std.proofs.lemmas.List.Sums.{AllPass-from_list_all}
 use Rattle.std.proofs.lemmas.List.FromFn.{get_or-range_with_len, length-range_with_len}
-use Rattle.job_model.specs.Numbers.{numbers_below}
+use Rattle.lists.specs.Numbers.{numbers_below}
 use Rattle.job_model.specs.Table.{Table, has_urgency_over}
-use Rattle.run_meaning.specs.declared.Place.{Place}
+use Rattle.run_meaning.specs.declared.places.Place.{Place}
 use Rattle.run_meaning.specs.Ready.{start_of, core_of, finish_of, ready_time}
 use Rattle.run_meaning.specs.Legal.{Legal, IsBusy, IsHeldBack}
-
-true≢false : true ≡ false → ⊥
-true≢false e = cc
+use Rattle.lists.proofs.Orderings.{true≢false}
 
 -- a test that all numbers below n pass holds of each
 pub below-all : (p : ℕ → Bool) (n x : ℕ) → list_all p (numbers_below n) ≡ true → x < n → p x ≡ true

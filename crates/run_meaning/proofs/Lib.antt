@@ -3,7 +3,6 @@ pub mod Sorted
 pub mod OrderLaws
 pub mod LegalTest
 pub mod Rows
-pub mod OneOrder
 pub mod OneRun
 pub mod OrderMembers
 pub mod Ends

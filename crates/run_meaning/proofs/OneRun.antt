@@ -3,7 +3,7 @@ use Rattle.std.proofs.Common.{◌≡◌, ℕ, ◌<◌, ◌⊎◌, inl, inr, true
 use Rattle.std.proofs.lemmas.Bool.{cases_order}
 use Rattle.std.proofs.lemmas.List.{ext_get_or, get_or_default}
 use Rattle.job_model.specs.Table.{Table, IsTable}
-use Rattle.run_meaning.specs.declared.Place.{Place}
+use Rattle.run_meaning.specs.declared.places.Place.{Place}
 use Rattle.run_meaning.specs.Ready.{start_of, core_of, no_place}
 use Rattle.run_meaning.specs.Order.{dispatch_order, starts_earlier}
 use Rattle.run_meaning.specs.Legal.{IsTaken, LowestIdle, TakesLowestIdle}

@@ -1,7 +1,7 @@
 -- Worked schedules, computed.
 use Rattle.std.proofs.Common.{◌≡◌, ℕ, false, List, [], ◌∷◌, refl}
 use Rattle.job_model.proofs.Tables.{table_a, table_b, table_tie}
-use Rattle.run_meaning.specs.declared.Place.{Place}
+use Rattle.run_meaning.specs.declared.places.Place.{Place}
 use Rattle.run_meaning.specs.Legal.{Legal}
 use Rattle.run_meaning.specs.Order.{dispatch_order}
 use Rattle.run_meaning.proofs.LegalTest.{legal_test, Legal-from_test}

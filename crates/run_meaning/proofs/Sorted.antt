@@ -7,92 +7,19 @@ use Rattle.std.specs.declared.cmp.Ordering.TheVariants.{Less, Equal, Greater}
 use Rattle.std.specs.Ordering.{ordering_reverse, ordering_then, nat_cmp, is_lt, on}
 use Rattle.std.proofs.lemmas.Bool.{cases_order, cond-true, lt-ltb}
 use Rattle.std.proofs.lemmas.List.Elements.{All-contains}
-use Rattle.job_model.specs.Numbers.{numbers_below}
+use Rattle.lists.specs.Numbers.{numbers_below}
 use Rattle.job_model.specs.Urgency.{urgency_cmp}
 use Rattle.job_model.specs.Table.{Table, IsTable, HaveOneId, job_at, no_job, predecessors}
 use Rattle.job_model.specs.Scenario.{cost_of}
 use Rattle.job_model.proofs.UrgencyLaws.{urgency_tie}
-use Rattle.run_meaning.specs.declared.Place.{Place}
+use Rattle.run_meaning.specs.declared.places.Place.{Place}
 use Rattle.run_meaning.specs.Ready.{start_of, finish_of, ready_time}
-use Rattle.run_meaning.specs.Order.{dispatch_cmp, insert_by, sorted_by, dispatch_order, starts_earlier}
+use Rattle.run_meaning.specs.Order.{dispatch_cmp, dispatch_order, starts_earlier}
 use Rattle.run_meaning.specs.Laws.{PredecessorsComeEarlier}
 use Rattle.run_meaning.proofs.OrderLaws.{dispatch_total, length-dispatch_order}
 use Rattle.run_meaning.proofs.StartsAgree.{cost_positive, predecessors_below, finished_by_ready}
-
--- in order: each element is before all later ones
-abbrev pub InOrder : {X : Type 0} → (X → X → Bool) → List X → Type 0
-InOrder lt [] = Unit {0}
-InOrder lt (x ∷ xs) = AllByRecursion (λ y. lt x y ≡ true) xs × InOrder lt xs
-
--- of each two elements one is before the other
-abbrev AreRanked : {X : Type 0} → (X → X → Bool) → List X → Type 0
-AreRanked lt [] = Unit {0}
-AreRanked lt (x ∷ xs) = AllByRecursion (λ y. (lt x y ≡ true) ⊎ (lt y x ≡ true)) xs × AreRanked lt xs
-
-pub recursion_weaker : {X : Type 0} (P Q : X → Type 0) → ((x : X) → P x → Q x) → (xs : List X) → AllByRecursion P xs → AllByRecursion Q xs
-recursion_weaker P Q h [] all = tt
-recursion_weaker P Q h (x ∷ xs) all = (h x all.0, recursion_weaker P Q h xs all.1)
-
-pub recursion_at : {X : Type 0} (P : X → Type 0) (xs : List X) (k : ℕ) (d : X) → AllByRecursion P xs → k < length xs → P (get_or xs k d)
-recursion_at P [] k d all below = absurd (omega (arith, below))
-recursion_at P (x ∷ xs) zero d all below = all.0
-recursion_at P (x ∷ xs) (suc k) d all below = recursion_at P xs k d all.1 (omega (arith, below))
-
-module _ {X : Type 0} (lt : X → X → Bool) where
-  one_inserted : (P : X → Type 0) (b : Bool) (x y : X) (ys : List X) → P x → P y → AllByRecursion P ys → AllByRecursion P (insert_by lt x ys) →
-      AllByRecursion P (cond b (x ∷ y ∷ ys) (y ∷ insert_by lt x ys))
-  one_inserted P true x y ys here next rest more = (here, (next, rest))
-  one_inserted P false x y ys here next rest more = (next, more)
-
-  pub all-insert_by : (P : X → Type 0) (x : X) (ys : List X) → P x → AllByRecursion P ys → AllByRecursion P (insert_by lt x ys)
-  all-insert_by P x [] here all = (here, tt)
-  all-insert_by P x (y ∷ ys) here all = one_inserted P (lt x y) x y ys here all.0 all.1 (all-insert_by P x ys here all.1)
-
-  pub all-sorted_by : (P : X → Type 0) (xs : List X) → AllByRecursion P xs → AllByRecursion P (sorted_by lt xs)
-  all-sorted_by P [] all = tt
-  all-sorted_by P (x ∷ xs) all = all-insert_by P x (sorted_by lt xs) all.0 (all-sorted_by P xs all.1)
-
-  module _ (trans : (x y z : X) → lt x y ≡ true → lt y z ≡ true → lt x z ≡ true) where
-    second_before : (b : Bool) (x y : X) → lt x y ≡ b → b ≡ false → (lt x y ≡ true) ⊎ (lt y x ≡ true) → lt y x ≡ true
-    second_before b x y e f (inl h) = cc
-    second_before b x y e f (inr h) = h
-
-    order_inserted : (b : Bool) (x y : X) (ys : List X) → lt x y ≡ b → (lt x y ≡ true) ⊎ (lt y x ≡ true) →
-        AllByRecursion (λ z. lt y z ≡ true) ys → InOrder lt ys → InOrder lt (insert_by lt x ys) → InOrder lt (cond b (x ∷ y ∷ ys) (y ∷ insert_by lt x ys))
-    order_inserted true x y ys e either behind rest more = ((e, recursion_weaker (λ z. lt y z ≡ true) (λ z. lt x z ≡ true) (λ z h. trans x y z e h) ys behind), (behind, rest))
-    order_inserted false x y ys e either behind rest more = (all-insert_by (λ z. lt y z ≡ true) x ys (second_before false x y e refl either) behind, more)
-
-    pub order-insert_by : (x : X) (ys : List X) → AllByRecursion (λ y. (lt x y ≡ true) ⊎ (lt y x ≡ true)) ys → InOrder lt ys → InOrder lt (insert_by lt x ys)
-    order-insert_by x [] ranked order = (tt, tt)
-    order-insert_by x (y ∷ ys) ranked order = order_inserted (lt x y) x y ys refl ranked.0 order.0 order.1 (order-insert_by x ys ranked.1 order.1)
-
-    pub order-sorted_by : (xs : List X) → AreRanked lt xs → InOrder lt (sorted_by lt xs)
-    order-sorted_by [] ranked = tt
-    order-sorted_by (x ∷ xs) ranked = order-insert_by x (sorted_by lt xs) (all-sorted_by (λ y. (lt x y ≡ true) ⊎ (lt y x ≡ true)) xs ranked.0) (order-sorted_by xs ranked.1)
-
-  -- in order, by places
-  pub order_at : (xs : List X) (i k : ℕ) (d : X) → InOrder lt xs → i < k → k < length xs → lt (get_or xs i d) (get_or xs k d) ≡ true
-  order_at [] i k d order less below = absurd (omega (arith, below))
-  order_at (x ∷ xs) i zero d order less below = absurd (omega (arith, less))
-  order_at (x ∷ xs) zero (suc k) d order less below = recursion_at (λ y. lt x y ≡ true) xs k d order.0 (omega (arith, below))
-  order_at (x ∷ xs) (suc i) (suc k) d order less below = order_at xs i k d order.1 (omega (arith, less)) (omega (arith, below))
-
--- numbers from a on are at least a, and below its end
-all_range : (P : ℕ → Type 0) (a n : ℕ) → ((x : ℕ) → a ≤ x → x < a + n → P x) → AllByRecursion P (range_with_len a n)
-all_range P a zero h = tt
-all_range P a (suc n) h = (h a (omega arith) (omega arith), all_range P (a + 1) n (λ x from below. h x (omega (arith, from)) (omega (arith, below))))
-
-ranked_range : (lt : ℕ → ℕ → Bool) (a n : ℕ) → ((x y : ℕ) → a ≤ x → x < y → y < a + n → (lt x y ≡ true) ⊎ (lt y x ≡ true)) → AreRanked lt (range_with_len a n)
-ranked_range lt a zero h = tt
-ranked_range lt a (suc n) h = (
-  all_range (λ y. (lt a y ≡ true) ⊎ (lt y a ≡ true)) (a + 1) n (λ y from below. h a y (omega arith) (omega (arith, from)) (omega (arith, below))),
-  ranked_range lt (a + 1) n (λ x y from less below. h x y (omega (arith, from)) less (omega (arith, below))),
-)
-
-is_Less : (o : Ordering) → is_lt o ≡ true → o ≡ Less
-is_Less Less e = refl
-is_Less Equal e = cc
-is_Less Greater e = cc
+use Rattle.lists.proofs.SortedBy.{InOrder, all-sorted_by, all_range, order-sorted_by, order_at, ranked_range}
+use Rattle.lists.proofs.Orderings.{is_Less}
 
 second_equal : (o p : Ordering) → ordering_then o p ≡ Equal → p ≡ Equal
 second_equal Less p e = cc

@@ -5,18 +5,16 @@ use Rattle.std.specs.List.{filter}
 use Rattle.std.proofs.lemmas.Bool.{cases_lt, cases_order}
 use Rattle.std.proofs.lemmas.List.Elements.{All-map, All-filter}
 use Rattle.std.proofs.lemmas.List.Recursion.{max_bounds, max_least}
-use Rattle.job_model.specs.Numbers.{greatest}
+use Rattle.lists.specs.Numbers.{greatest}
 use Rattle.job_model.specs.Table.{Table, IsTable, job_at, no_job, predecessors}
 use Rattle.job_model.specs.Scenario.{Fits, release_of, cost_of}
 use Rattle.job_model.proofs.UrgencyLaws.{urgent_one_way}
-use Rattle.run_meaning.specs.declared.Place.{Place}
+use Rattle.run_meaning.specs.declared.places.Place.{Place}
 use Rattle.run_meaning.specs.Ready.{start_of, core_of, finish_of, ready_time, IsRunning}
 use Rattle.run_meaning.specs.Legal.{Legal, IsHeldBack}
 use Rattle.run_meaning.specs.Laws.{StartsAgree}
 use Rattle.job_model.proofs.Pigeonhole.{pigeonhole}
-
-true≢false : true ≡ false → ⊥
-true≢false e = cc
+use Rattle.lists.proofs.Orderings.{true≢false}
 
 -- what follows from all lesser numbers holds of each
 pub by_lesser : (P : ℕ → Type 0) → ((t : ℕ) → ((u : ℕ) → u < t → P u) → P t) → (t : ℕ) → P t

@@ -1,9 +1,9 @@
 -- Laws of legal schedules.
 use Rattle.std.specs.Prelude.{◌≡◌, ℕ, List, ◌+◌, ◌*◌, ◌<◌, ◌≤◌, length, Contains, IsTrue}
-use Rattle.job_model.specs.declared.TheConstants.{MOST_ARRIVAL, MOST_COST, MOST_JOBS}
+use Rattle.job_model.specs.declared.limits.TheConstants.{MOST_ARRIVAL, MOST_COST, MOST_JOBS}
 use Rattle.job_model.specs.Table.{Table, IsTable, predecessors}
 use Rattle.job_model.specs.Scenario.{Fits}
-use Rattle.run_meaning.specs.declared.Place.{Place}
+use Rattle.run_meaning.specs.declared.places.Place.{Place}
 use Rattle.run_meaning.specs.Ready.{start_of, finish_of}
 use Rattle.run_meaning.specs.Legal.{Legal, LowestIdle}
 use Rattle.run_meaning.specs.Order.{starts_earlier}

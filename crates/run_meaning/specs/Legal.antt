@@ -1,10 +1,13 @@
 -- Legal schedules of a scenario on m cores: global, without preemption, by job-level fixed priority.
+-- The system model is that of Nasri, Nelissen and Brandenburg ("A Response-Time Analysis for Non-Preemptive Job Sets under
+-- Global Scheduling", ECRTS 2018, the section on the system model), with precedence as in their paper of ECRTS 2019. What
+-- differs: time goes in unit slots, whole schedules are judged and no queue is known, and ties are broken by task and job.
 --     Legal table m scenario schedule               the four rules, L0 to L3
 --     TakesLowestIdle table scenario schedule j     job j is on the lowest core that is idle at its start
 --     LowestIdle table scenario schedule            each job is
 use Rattle.std.specs.Prelude.{◌≡◌, ◌≢◌, ℕ, List, ◌≤◌, ◌<◌, ◌⊎◌, length, IsTrue}
 use Rattle.job_model.specs.Table.{Table, has_urgency_over}
-use Rattle.run_meaning.specs.declared.Place.{Place}
+use Rattle.run_meaning.specs.declared.places.Place.{Place}
 use Rattle.run_meaning.specs.Ready.{start_of, core_of, finish_of, ready_time, IsRunning}
 use Rattle.run_meaning.specs.Order.{starts_earlier}
 

@@ -3,3 +3,4 @@ pub mod Order
 pub mod Dispatches
 pub mod Legal
 pub mod Laws
+pub mod Guarantees

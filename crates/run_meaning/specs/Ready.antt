@@ -4,10 +4,10 @@
 --     ready_time table scenario schedule j          when it is released and all its predecessors have finished
 --     IsRunning scenario schedule i t               job i occupies its core in the slot from t to t + 1
 use Rattle.std.specs.Prelude.{ℕ, List, ◌∷◌, ◌+◌, ◌≤◌, ◌<◌, map, slice_index_or}
-use Rattle.job_model.specs.Numbers.{greatest}
+use Rattle.lists.specs.Numbers.{greatest}
 use Rattle.job_model.specs.Table.{Table, predecessors}
 use Rattle.job_model.specs.Scenario.{release_of, cost_of}
-use Rattle.run_meaning.specs.declared.Place.{Place}
+use Rattle.run_meaning.specs.declared.places.Place.{Place}
 
 -- read only past the end of a schedule
 abbrev pub no_place : Place

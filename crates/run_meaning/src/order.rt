@@ -1,32 +1,31 @@
-// The order in which a schedule dispatches its jobs.
+//! The order in which a schedule dispatches its jobs.
 
 ghost use Rattle.std.specs.Prelude.{◌≡◌, ◌<◌, IfOk, length, map};
-ghost use Rattle.job_model.specs.Numbers.{numbers_below};
+ghost use Rattle.lists.specs.Numbers.{numbers_below};
 ghost use Rattle.job_model.specs.Table.{IsTable};
-ghost use Rattle.run_meaning.specs.Dispatches.{dispatch_of, key_of};
+ghost use Rattle.run_meaning.specs.Dispatches.{dispatch_key, dispatch_of};
 ghost use Rattle.run_meaning.specs.Order.{dispatch_order};
 
 use crate::Schedule;
-use job_model::JobTable;
+use job_model::{JobTable, ranks_order_jobs};
 use job_sets::JobNo;
 use std::alloc::{AllocError, Global};
 
 // A job, with what it is sorted by.
 #[derive(Clone, Copy)]
-struct Dispatch {
+pub(crate) struct Dispatch {
     no: JobNo,
     start: u64,
-    priority: u64,
-    task: u64,
-    job: u64,
+    // how many jobs are more urgent
+    rank: u16,
 }
 
 impl Dispatch {
     // By start, and at one start by urgency.
-    fn key(&self) -> (u64, u64, u64, u64)
-        ensures { result ≡ key_of self.now }
+    fn key(&self) -> (u64, u16)
+        ensures { result ≡ dispatch_key self.now }
     {
-        (self.start, self.priority, self.task, self.job)
+        (self.start, self.rank)
     }
 }
 
@@ -36,13 +35,10 @@ fn dispatch_at(table: &JobTable, schedule: &Schedule, no: JobNo) -> Dispatch
     requires places { length schedule.now ≡ length table.now.jobs }
     ensures { result ≡ dispatch_of table.now schedule.now no }
 {
-    let job = table.job(no);
     Dispatch {
         no,
         start: schedule.places[usize::from(no.0)].start,
-        priority: job.priority,
-        task: job.task,
-        job: job.job,
+        rank: table.rank(no),
     }
 }
 
@@ -75,6 +71,7 @@ fn sorted_dispatches(
     ensures { IfOk result (λ jobs. jobs.items ≡
         map (dispatch_of table.now schedule.now) (dispatch_order table.now schedule.now)) }
 {
+    ranks_order_jobs();
     let mut jobs = dispatches(alloc, table, schedule)?;
     jobs.sort_unstable_by_key(|job| job.key());
     Ok(jobs)

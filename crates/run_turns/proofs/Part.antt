@@ -11,20 +11,19 @@ use Rattle.std.specs.Ordering.{ordering_then, nat_cmp, is_lt, on}
 use Rattle.std.proofs.lemmas.Bool.{cases_lt, cases_eq}
 use Rattle.std.proofs.lemmas.List.{length-set, get_or-set_same, get_or-set_other}
 use Rattle.std.proofs.lemmas.Cmp.{tied_itself, nat_cmp_total}
-use Rattle.job_model.specs.Numbers.{greatest}
+use Rattle.lists.specs.Numbers.{greatest}
 use Rattle.job_model.specs.Urgency.{urgency_cmp}
 use Rattle.job_model.specs.Table.{Table, IsTable, job_at, predecessors, has_urgency_over}
 use Rattle.job_model.specs.Scenario.{Fits, cost_of, release_of}
-use Rattle.run_meaning.specs.declared.Place.{Place}
+use Rattle.run_meaning.specs.declared.places.Place.{Place}
 use Rattle.run_meaning.specs.Ready.{start_of, core_of, finish_of, ready_time, no_place}
 use Rattle.run_meaning.specs.Order.{starts_earlier}
 use Rattle.run_meaning.specs.Legal.{Legal, IsTaken, LowestIdle}
 use Rattle.run_turns.specs.Parts.{IsInUse, CanStart, IsHeld, IsTakenBefore, IsPart, IsTurn}
 use Rattle.run_meaning.proofs.StartsAgree.{cost_positive}
-use Rattle.run_meaning.proofs.Sorted.{earlier-start, earlier_one_way, recursion_weaker}
-
-true≢false : true ≡ false → ⊥
-true≢false e = cc
+use Rattle.run_meaning.proofs.Sorted.{earlier-start, earlier_one_way}
+use Rattle.lists.proofs.Elements.{recursion_weaker}
+use Rattle.lists.proofs.Orderings.{true≢false}
 
 either : (b : Bool) → (b ≡ true) ⊎ (b ≡ false)
 either true = inl refl

@@ -7,7 +7,7 @@ use Rattle.std.proofs.Math.ListN.{replicate}
 use Rattle.job_model.specs.Table.{Table, IsTable, job_at, has_urgency_over}
 use Rattle.job_model.specs.Scenario.{Fits}
 use Rattle.job_model.proofs.UrgencyLaws.{urgent_or_urgent, urgent-trans}
-use Rattle.run_meaning.specs.declared.Place.{Place}
+use Rattle.run_meaning.specs.declared.places.Place.{Place}
 use Rattle.run_meaning.specs.Ready.{core_of, finish_of, ready_time, no_place}
 use Rattle.run_meaning.specs.Legal.{Legal, LowestIdle}
 use Rattle.run_meaning.specs.Laws.{RunsExist}

@@ -4,7 +4,7 @@ use Rattle.std.proofs.lemmas.List.{take-append-drop, length-take-le, drop-drop}
 use Rattle.std.specs.Io.KnownBytes.{Consumes, IsAtEnd}
 use Rattle.std.specs.Option.{option_map}
 use Rattle.sag_edge.specs.Contents.{Contents, bytes_at}
-use Rattle.sag_edge.specs.Reading.{Splits, HasRead, SeenFiles, Gives, BeginsAt}
+use Rattle.sag_edge.specs.Reading.{Splits, HasRead, SeenFiles, ReadsBytes, BeginsAt}
 
 pub splits_first : (c : Option Contents) (name : List ℕ) → Splits c (option_map (λ m. bytes_at m name) c) name []
 splits_first None name = tt
@@ -27,7 +27,7 @@ splits_long (Some m) None name list limit s e = absurd s
 splits_long (Some m) (Some x) name list limit s e = omega (arith, ap length s, length-append list x)
 
 -- what was read grows by what a read gives
-pub reads_on : (start old new : SeenFiles) (name list given : List ℕ) (room : ℕ) → HasRead start old name list → new.contents ≡ old.contents → old.faults ≤ new.faults → Gives old new given room → HasRead start new name (list ++ given)
+pub reads_on : (start old new : SeenFiles) (name list given : List ℕ) (room : ℕ) → HasRead start old name list → new.contents ≡ old.contents → old.faults ≤ new.faults → ReadsBytes old new given room → HasRead start new name (list ++ given)
 reads_on start old new name list given room h same later g = record {
   contents = same ∙ h.contents;
   current = g.current ∙ h.current;

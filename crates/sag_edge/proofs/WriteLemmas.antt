@@ -1,17 +1,17 @@
 -- What writing piece by piece comes to.
 use Rattle.std.proofs.Common.{◌≡◌, ℕ, ◌+◌, ◌≤◌, ◌++◌, List, [], length, take, sym, ap, ◌∙◌, arith, append_assoc, append-nil, length-append, drop, min, Option, Some, None, IfSome, IsSome, Result, Ok, Err, refl}
-use Rattle.sag_edge.specs.Writing.{SeenSink, Takes, TakesPrefix, StillTells, Puts}
+use Rattle.sag_edge.specs.Writing.{SeenSink, GrowsBy, GrowsByPrefix, StillTells, Puts}
 use Rattle.sag_edge.specs.Causes.{Rose}
 use Rattle.std.proofs.lemmas.Result.{on_ok_weaker, on_err_weaker}
 use Rattle.std.proofs.lemmas.Grind.{common_steps}
 use Rattle.std.proofs.lemmas.List.{take-append-drop, take-append-le, take_min}
 use Rattle.std.proofs.Math.Seq.{take-append-add}
 
-pub takes_none : (a : Option (List ℕ)) → Takes a a []
+pub takes_none : (a : Option (List ℕ)) → GrowsBy a a []
 takes_none None = tt
 takes_none (Some x) = sym (append-nil x)
 
-pub takes_more : (a b c : Option (List ℕ)) (x y : List ℕ) → Takes a b x → Takes b c y → Takes a c (x ++ y)
+pub takes_more : (a b c : Option (List ℕ)) (x y : List ℕ) → GrowsBy a b x → GrowsBy b c y → GrowsBy a c (x ++ y)
 takes_more a b None x y p q = tt
 takes_more a None (Some z) x y p q = absurd q
 takes_more None (Some w) (Some z) x y p q = absurd p
@@ -21,37 +21,37 @@ takes_more (Some v) (Some w) (Some z) x y p q = q ∙ ap (λ t. t ++ y) p ∙ ap
 pub front_of : (x y : List ℕ) → take (length x) (x ++ y) ≡ x
 front_of x y = grind (arith, common_steps)
 
-pub prefix_from_front : (a b : Option (List ℕ)) (x y : List ℕ) → Takes a b x → TakesPrefix a b (x ++ y)
+pub prefix_from_front : (a b : Option (List ℕ)) (x y : List ℕ) → GrowsBy a b x → GrowsByPrefix a b (x ++ y)
 prefix_from_front a b x y p = (length x, rw front_of p)
 
 -- one more write of a loop
-pub writes_on : (a b c : Option (List ℕ)) (bytes rest later : List ℕ) (n : ℕ) → ((done : List ℕ) × (bytes ≡ done ++ rest) × Takes a b done) → Takes b c (take n rest) → later ≡ drop n rest → (done : List ℕ) × (bytes ≡ done ++ later) × Takes a c done
+pub writes_on : (a b c : Option (List ℕ)) (bytes rest later : List ℕ) (n : ℕ) → ((done : List ℕ) × (bytes ≡ done ++ rest) × GrowsBy a b done) → GrowsBy b c (take n rest) → later ≡ drop n rest → (done : List ℕ) × (bytes ≡ done ++ later) × GrowsBy a c done
 writes_on a b c bytes rest later n (done, all, first) more e =
     (done ++ take n rest, all ∙ ap (λ t. done ++ t) (sym (take-append-drop n rest)) ∙ sym (append_assoc done (take n rest) (drop n rest)) ∙ ap (λ t. (done ++ take n rest) ++ t) (sym e), takes_more a b c done (take n rest) first more)
 
 -- a write of a loop that failed
-pub writes_off : (a b c : Option (List ℕ)) (bytes rest : List ℕ) → ((done : List ℕ) × (bytes ≡ done ++ rest) × Takes a b done) → Takes b c [] → TakesPrefix a c bytes
+pub writes_off : (a b c : Option (List ℕ)) (bytes rest : List ℕ) → ((done : List ℕ) × (bytes ≡ done ++ rest) × GrowsBy a b done) → GrowsBy b c [] → GrowsByPrefix a c bytes
 writes_off a b c bytes rest (done, all, first) more =
     rw all (prefix_from_front a c done rest (rw (← append-nil done) (takes_more a b c done [] first more)))
 
 -- what is written after some bytes is a prefix of both
-pub prefix_on : (a b c : Option (List ℕ)) (x y : List ℕ) → Takes a b x → TakesPrefix b c y → TakesPrefix a c (x ++ y)
+pub prefix_on : (a b c : Option (List ℕ)) (x y : List ℕ) → GrowsBy a b x → GrowsByPrefix b c y → GrowsByPrefix a c (x ++ y)
 prefix_on a b c x y p (n, q) = (length x + n, rw take-append-add (takes_more a b c x (take n y) p q))
 
 cut_front : (x y : List ℕ) (n : ℕ) → take (min n (length x)) (x ++ y) ≡ take n x
 cut_front x y n = take-append-le (min n (length x)) x y (omega arith) ∙ take_min n x
 
 -- a prefix of the first bytes is a prefix of all
-pub prefix_more : (a b : Option (List ℕ)) (x y : List ℕ) → TakesPrefix a b x → TakesPrefix a b (x ++ y)
+pub prefix_more : (a b : Option (List ℕ)) (x y : List ℕ) → GrowsByPrefix a b x → GrowsByPrefix a b (x ++ y)
 prefix_more a b x y (n, p) = (min n (length x), rw cut_front p)
 
 take_all_of : (x : List ℕ) → take (length x) x ≡ x
 take_all_of x = grind (arith, common_steps)
 
-pub whole_prefix : (a b : Option (List ℕ)) (x : List ℕ) → Takes a b x → TakesPrefix a b x
+pub whole_prefix : (a b : Option (List ℕ)) (x : List ℕ) → GrowsBy a b x → GrowsByPrefix a b x
 whole_prefix a b x p = (length x, rw take_all_of p)
 
-pub none_prefix : (a b : Option (List ℕ)) (x : List ℕ) → Takes a b [] → TakesPrefix a b x
+pub none_prefix : (a b : Option (List ℕ)) (x : List ℕ) → GrowsBy a b [] → GrowsByPrefix a b x
 none_prefix a b x p = (0, p)
 
 -- a count that rose later on rose
@@ -61,7 +61,7 @@ rose_on a b c l r = omega arith
 told_none : IsSome {T = List ℕ} None → ⊥
 told_none e = cc
 
-tells_at : (a b c : Option (List ℕ)) (room : ℕ) (x y : List ℕ) → Takes a b x → IfSome a (λ t. length t + length (x ++ y) ≤ room → IsSome b) → IfSome b (λ t. length t + length y ≤ room → IsSome c) → IfSome a (λ t. length t + length (x ++ y) ≤ room → IsSome c)
+tells_at : (a b c : Option (List ℕ)) (room : ℕ) (x y : List ℕ) → GrowsBy a b x → IfSome a (λ t. length t + length (x ++ y) ≤ room → IsSome b) → IfSome b (λ t. length t + length y ≤ room → IsSome c) → IfSome a (λ t. length t + length (x ++ y) ≤ room → IsSome c)
 tells_at None b c room x y p one other = tt
 tells_at (Some s) None c room x y p one other = λ h. absurd (told_none (one h))
 tells_at (Some s) (Some t) c room x y p one other = λ h. other (omega (arith, ap length p, length-append s x, length-append x y, h))
@@ -71,7 +71,7 @@ tells_less None b room x y one = tt
 tells_less (Some s) b room x y one = λ h. one (omega (arith, length-append x y, h))
 
 -- a sink with room for all of the bytes tells them after the first ones, and then after the others
-pub tells_on : (a b c : SeenSink) (x y : List ℕ) → Takes a.taken b.taken x → StillTells a b (x ++ y) → StillTells b c y → StillTells a c (x ++ y)
+pub tells_on : (a b c : SeenSink) (x y : List ℕ) → GrowsBy a.taken b.taken x → StillTells a b (x ++ y) → StillTells b c y → StillTells a c (x ++ y)
 tells_on a b c x y p one other = record {
   room = other.room ∙ one.room;
   tells = tells_at a.taken b.taken c.taken a.room x y p one.tells (rw one.room at other.tells);
@@ -82,7 +82,7 @@ pub tells_more : (a b : SeenSink) (x y : List ℕ) → StillTells a b x → Stil
 tells_more a b x y one = record { room = one.room; tells = tells_less a.taken b.taken a.room x y one.tells }
 
 -- the same in a loop, which has written the first ones
-pub tells_still : (a b c : SeenSink) (bytes rest : List ℕ) → ((done : List ℕ) × (bytes ≡ done ++ rest) × Takes a.taken b.taken done) → StillTells a b bytes → StillTells b c rest → StillTells a c bytes
+pub tells_still : (a b c : SeenSink) (bytes rest : List ℕ) → ((done : List ℕ) × (bytes ≡ done ++ rest) × GrowsBy a.taken b.taken done) → StillTells a b bytes → StillTells b c rest → StillTells a c bytes
 tells_still a b c bytes rest (done, all, first) one other = rw all (tells_on a b c done rest first (rw all at one) other)
 
 -- some bytes, and then others

@@ -1,10 +1,10 @@
 -- What contracts see of a source of files, and what its calls do.
---   SeenFiles  a source of files: what it tells, the current file, the blamed name, the faults
---   BeginsAt   a file was begun
---   Blames     a call failed at a file
---   Gives      a read gave bytes
---   Splits     a file is what was read of it, and what is left
---   HasRead    these bytes of the current file were read
+--   SeenFiles   a source of files: what it tells, the current file, the blamed name, the faults
+--   BeginsAt    a file was begun
+--   Blames      a call failed at a file
+--   ReadsBytes  a read gave bytes
+--   Splits      a file is what was read of it, and what is left
+--   HasRead     these bytes of the current file were read
 use Rattle.std.specs.Prelude.{ℕ, ◌≡◌, ◌<◌, ◌≤◌, ◌++◌, List, [], None, Some, ⊤}
 use Rattle.std.specs.Option.{option_map}
 use Rattle.std.specs.declared.option.Option.{Option}
@@ -32,7 +32,7 @@ pub record Blames (new : SeenFiles) (name : Option (List ℕ)) : Type 0 where
   pub blamed : new.blamed ≡ name
 
 -- a read gave these bytes, and none into a piece with room only at the end of the file
-pub record Gives (old new : SeenFiles) (given : List ℕ) (room : ℕ) : Type 0 where
+pub record ReadsBytes (old new : SeenFiles) (given : List ℕ) (room : ℕ) : Type 0 where
   pub current : new.current ≡ old.current
   pub blamed : new.blamed ≡ old.blamed
   pub bytes : Consumes old.left new.left given

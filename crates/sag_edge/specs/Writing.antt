@@ -1,9 +1,9 @@
 -- What contracts see of a sink, and what its calls do.
---   SeenSink     a sink: the bytes taken, its room, whether it is finished, the faults
---   Takes        these bytes were taken, where that is told
---   TakesPrefix  the first ones of these bytes were taken
---   StillTells   a sink with room for these bytes tells its bytes after the call
---   Puts         a call appended bytes: all of them, or the first ones where it failed
+--   SeenSink       a sink: the bytes taken, its room, whether it is finished, the faults
+--   GrowsBy        these bytes were taken, where that is told
+--   GrowsByPrefix  the first ones of these bytes were taken
+--   StillTells     a sink with room for these bytes tells its bytes after the call
+--   Puts           a call appended bytes: all of them, or the first ones where it failed
 use Rattle.std.specs.Prelude.{ℕ, ◌≡◌, ◌+◌, ◌≤◌, ◌++◌, Bool, List, length, take, Result, OnOk, OnErr, IfSome, IsSome, None, Some, ⊤}
 use Rattle.std.specs.declared.option.Option.{Option}
 use Rattle.sag_edge.specs.Causes.{Rose}
@@ -16,14 +16,14 @@ pub record SeenSink : Type 0 where
   pub faults : ℕ
 
 -- Where the bytes are told after the call they were told before it, and grew by these.
-abbrev pub Takes : Option (List ℕ) → Option (List ℕ) → List ℕ → Type 0
-Takes old None bytes = ⊤
-Takes None (Some after) bytes = ⊥
-Takes (Some before) (Some after) bytes = after ≡ before ++ bytes
+abbrev pub GrowsBy : Option (List ℕ) → Option (List ℕ) → List ℕ → Type 0
+GrowsBy old None bytes = ⊤
+GrowsBy None (Some after) bytes = ⊥
+GrowsBy (Some before) (Some after) bytes = after ≡ before ++ bytes
 
 -- where the bytes are told after the call, they grew by the first ones of these
-abbrev pub TakesPrefix : Option (List ℕ) → Option (List ℕ) → List ℕ → Type 0
-TakesPrefix old new bytes = (n : ℕ) × Takes old new (take n bytes)
+abbrev pub GrowsByPrefix : Option (List ℕ) → Option (List ℕ) → List ℕ → Type 0
+GrowsByPrefix old new bytes = (n : ℕ) × GrowsBy old new (take n bytes)
 
 -- the room stays, and a sink that told its bytes and has room for these tells its bytes after the call
 pub record StillTells (old new : SeenSink) (bytes : List ℕ) : Type 0 where
@@ -33,6 +33,6 @@ pub record StillTells (old new : SeenSink) (bytes : List ℕ) : Type 0 where
 -- a call that appends bytes: all of them, or the first ones where it failed, for a fault that was counted
 pub record Puts {T E : Type 0} (old new : SeenSink) (bytes : List ℕ) (result : Result T E) : Type 0 where
   pub later : old.faults ≤ new.faults
-  pub ok : OnOk result (Takes old.taken new.taken bytes)
-  pub failed : OnErr result (Rose old.faults new.faults × TakesPrefix old.taken new.taken bytes)
+  pub ok : OnOk result (GrowsBy old.taken new.taken bytes)
+  pub failed : OnErr result (Rose old.faults new.faults × GrowsByPrefix old.taken new.taken bytes)
   pub tells : StillTells old new bytes

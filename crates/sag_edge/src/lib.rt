@@ -1,4 +1,4 @@
-// Files that are read and streams that are written, by what a caller can know of them.
+//! Files that are read and streams that are written, by what a caller can know of them.
 #![tactic(auto)]
 
 mod machine;

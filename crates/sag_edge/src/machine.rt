@@ -1,3 +1,7 @@
+//! The files and streams of the machine: the edge, where what is read and written is trusted.
+//!
+//! A call that the system interrupted is a fault like any other: nothing is tried again, so every call ends.
+
 ghost use Rattle.std.specs.Prelude.{◌≡◌, ℕ, None, false};
 ghost use Rattle.std.specs.Option.{option_map};
 ghost use Rattle.sag_edge.specs.Reading.{SeenFiles};

@@ -1,3 +1,5 @@
+//! Names of files, and their bytes.
+
 ghost use Rattle.std.specs.Prelude.{◌≡◌, ℕ, List, IfOk, MatchOption, [], vec_len, string_bytes};
 ghost use Rattle.sag_edge.specs.Contents.{bytes_at};
 

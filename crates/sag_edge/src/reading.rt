@@ -1,9 +1,12 @@
+//! Files that are read, and the reading of a whole file.
+
 ghost use Rattle.std.specs.Prelude.{◌≡◌, ℕ, ◌+◌, ◌-◌, ◌*◌, ◌^◌, ◌<◌, ◌≤◌, List, length, take, IsSome, IfSome, IfOk, OnOk, OnErr, IsErrOf, vec_len, Some};
 ghost use Rattle.std.specs.Io.{ReadsAtMost};
 ghost use Rattle.sag_edge.specs.Causes.{HasCause, Rose};
 ghost use Rattle.sag_edge.specs.Contents.{bytes_at};
-ghost use Rattle.sag_edge.specs.Reading.{SeenFiles, BeginsAt, Blames, Gives, HasRead};
+ghost use Rattle.sag_edge.specs.Reading.{SeenFiles, BeginsAt, Blames, ReadsBytes, HasRead};
 ghost use Rattle.std.specs.Io.KnownBytes.{IsAtEnd};
+ghost use Rattle.sag_edge.specs.declared.reading.ReadAnswer.TheVariants as answer;
 
 use crate::names::FileName;
 use std::alloc::{AllocError, Global};
@@ -35,7 +38,7 @@ pub trait Files {
         ensures contents { (seen self.new).contents ≡ (seen self.old).contents }
         ensures cause { HasCause (seen self.old).faults (seen self.new).faults result }
         ensures bound { ReadsAtMost result into.new }
-        ensures ok { IfOk result (λ n. Gives (seen self.old) (seen self.new) (take n into.new) (length into.new)) }
+        ensures ok { IfOk result (λ n. ReadsBytes (seen self.old) (seen self.new) (take n into.new) (length into.new)) }
         ensures failed { OnErr result (Blames (seen self.new) (seen self.old).current) };
 }
 
@@ -50,11 +53,19 @@ pub enum ReadAnswer {
     Memory,
 }
 
+impl From<AllocError> for ReadAnswer {
+    ghost from_gives = { λ _ e. e ≡ answer.Memory };
+
+    fn from(_: AllocError) -> ReadAnswer {
+        ReadAnswer::Memory
+    }
+}
+
 /// How many bytes one read asks for at most.
-const PIECE: usize = 65536;
+pub(crate) const PIECE: usize = 65_536;
 
 /// A list of so many zeros, which reads write over.
-fn zeros(alloc: Global, count: usize) -> Result<Vec<u8>, AllocError>
+pub(crate) fn zeros(alloc: Global, count: usize) -> Result<Vec<u8>, AllocError>
     ensures { IfOk result (λ list. vec_len list ≡ count) }
 {
     vec![in alloc; 0u8; count]
@@ -126,17 +137,14 @@ pub fn read_all<F: Files>(
         return Err(ReadAnswer::ReadFault);
     };
     let mut list = Vec::new(alloc);
-    let Ok(mut piece) = zeros(alloc, PIECE) else {
-        return Err(ReadAnswer::Memory);
-    };
+    let mut piece = zeros(alloc, PIECE)?;
     let mut room = limit + 1;
     while room > 0 {
         let most = PIECE.min(room as usize);
         match read_piece(files, &mut piece, most, &mut list) {
             Ok(0) => return Ok(list),
             Ok(count) => room -= count as u64,
-            Err(ReadAnswer::ReadFault) => return Err(ReadAnswer::ReadFault),
-            Err(_) => return Err(ReadAnswer::Memory),
+            Err(answer) => return Err(answer),
         }
     }
     Err(ReadAnswer::TooLong)

@@ -1,3 +1,5 @@
+//! Files and sinks in memory that never fail.
+
 ghost use Rattle.std.specs.Prelude.{◌≡◌, ◌==◌, ℕ, ◌+◌, ◌-◌, ◌<◌, ◌≤◌, ◌^◌, List, [], length, take, drop, min, Some, None, IfOk, vec_len, vec_capacity, true, false, if◌then◌else◌};
 ghost use Rattle.sag_edge.specs.Contents.{bytes_at, left_of};
 ghost use Rattle.sag_edge.specs.Reading.{SeenFiles};

@@ -91,15 +91,36 @@ fn writes_in_pieces(rt: HostRuntime) -> Result<(), Fail> {
 }
 
 #[test]
-fn adapts_the_machine(rt: HostRuntime) -> Result<(), Fail> {
+fn adapts_the_files_of_the_machine(rt: HostRuntime) -> Result<(), Fail> {
     let alloc = rt.alloc();
     let mut files = RealFiles::new(rt);
-    assert_eq!(rt;
-        files.begin(named(alloc, "no such folder/file")?),
-        Err(Failed)
-    );
+    let absent = files.begin(named(alloc, "no such folder/file")?);
+    assert_eq!(rt; absent, Err(Failed));
+    // A folder is opened, and not read. The device gives zeros without end.
+    for (name, limit, want) in [
+        ("no such folder/file", 9, ReadAnswer::ReadFault),
+        (".", 9, ReadAnswer::ReadFault),
+        ("/dev/full", 9, ReadAnswer::TooLong),
+    ] {
+        let got = read_all(alloc, &mut files, named(alloc, name)?, limit);
+        assert_eq!(rt; got.err(), Some(want), "{name}");
+    }
+    let none = read_all(alloc, &mut files, named(alloc, "/dev/null")?, 0);
+    assert_eq!(rt; none.map(|list| list.len()), Ok(0));
+    Ok(())
+}
+
+#[test]
+fn adapts_the_streams_of_the_machine(rt: HostRuntime) -> Result<(), Fail> {
     let mut sink = StdSink::new(std::io::sink());
     assert_eq!(rt; write_whole(&mut sink, TEXT.as_bytes()), Ok(()));
     assert_eq!(rt; sink.finish(), Ok(()));
+    // The device that is always full.
+    let Ok(device) = std::fs::create(&rt, "/dev/full") else {
+        return Ok(());
+    };
+    let mut full = StdSink::new(device);
+    assert_eq!(rt; write_whole(&mut full, TEXT.as_bytes()), Err(Failed));
+    assert_eq!(rt; full.finish(), Ok(()));
     Ok(())
 }

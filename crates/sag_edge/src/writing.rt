@@ -1,6 +1,8 @@
+//! Streams that are written.
+
 ghost use Rattle.std.specs.Prelude.{◌≡◌, ℕ, ◌+◌, ◌<◌, ◌≤◌, List, [], length, take, false, true, IsTrue, IfOk, OnOk, OnErr};
 ghost use Rattle.sag_edge.specs.Causes.{HasCause};
-ghost use Rattle.sag_edge.specs.Writing.{SeenSink, Takes, StillTells, Puts};
+ghost use Rattle.sag_edge.specs.Writing.{SeenSink, GrowsBy, StillTells, Puts};
 
 use crate::reading::Failed;
 
@@ -18,8 +20,8 @@ pub trait Sink {
         ensures cause { HasCause (seen self.old).faults (seen self.new).faults result }
         ensures bound { IfOk result (λ n. n ≤ length bytes.now) }
         ensures goes { IfOk result (λ n. 0 < length bytes.now → 0 < n) }
-        ensures ok { IfOk result (λ n. Takes (seen self.old).taken (seen self.new).taken (take n bytes.now)) }
-        ensures failed { OnErr result (Takes (seen self.old).taken (seen self.new).taken []) }
+        ensures ok { IfOk result (λ n. GrowsBy (seen self.old).taken (seen self.new).taken (take n bytes.now)) }
+        ensures failed { OnErr result (GrowsBy (seen self.old).taken (seen self.new).taken []) }
         ensures tells { StillTells (seen self.old) (seen self.new) bytes.now }
         ensures resumes { IfOk result (λ n. 0 < n → (seen self.new).finished ≡ false) }
         ensures stays { IfOk result (λ n. n ≡ 0 → (seen self.new).finished ≡ (seen self.old).finished) }
@@ -28,7 +30,7 @@ pub trait Sink {
     /// Hands on what was taken. The sink is finished then, until a write takes bytes.
     fn finish(&mut self) -> Result<(), Failed>
         ensures cause { HasCause (seen self.old).faults (seen self.new).faults result }
-        ensures bytes { Takes (seen self.old).taken (seen self.new).taken [] }
+        ensures bytes { GrowsBy (seen self.old).taken (seen self.new).taken [] }
         ensures tells { StillTells (seen self.old) (seen self.new) [] }
         ensures ok { OnOk result (IsTrue (seen self.new).finished) };
 }

@@ -1,17 +1,14 @@
--- The files that a command reads are those that its words name.
+-- The files that a plan reads are those that it names.
 use Rattle.std.proofs.Common.{◌≡◌, ℕ, ◌⊎◌, ◌∷◌, ◌++◌, [], inl, inr, List, Option, None, Some, Result, Ok, Err}
 use Rattle.sag_edge.specs.Contents.{Contents}
 use Rattle.job_model.specs.Table.{Table}
 use Rattle.sag_texts.specs.declared.fault.FileKind.{FileKind}
 use Rattle.sag_texts.specs.declared.fault.FileKind.TheVariants as kinds
 use Rattle.sag_texts.specs.declared.fault.Fault.{Fault}
-use Rattle.sag_words.specs.declared.Command.{Command}
-use Rattle.sag_words.specs.declared.Command.TheVariants as commands
 use Rattle.sag_engine.specs.Plan.{Plan, ◌>>=◌, ReadsNext, file_plan, judged}
 use Rattle.sag_engine.specs.Plan.Plan.{Ends, Reads, Judges}
 use Rattle.sag_engine.specs.Inputs.{jobs_plan, precedence_plan, scenario_plan, table_plan}
-use Rattle.sag_engine.specs.Work.{command_plan, files_of, precedence_file, IsAmongFiles}
-use Rattle.sag_engine.specs.Work.Work.{Replays}
+use Rattle.sag_engine.specs.Work.{precedence_file, IsAmongFiles}
 
 -- a plan that goes on reads a file of its first part or of what follows
 pub reads_split : {A B : Type 0} (p : Plan (Result A Fault)) (q : A → Plan (Result B Fault)) (m : Option Contents) (k : FileKind) (n : List ℕ) → ReadsNext (p >>= q) m k n → ReadsNext p m k n ⊎ ((a : A) × ReadsNext (q a) m k n)
@@ -34,7 +31,7 @@ jobs_reads : (name : List ℕ) (m : Option Contents) (k : FileKind) (n : List �
 unfolding jobs_plan
 jobs_reads name m k n h = one_file _ name _ _ m k n h
 
-scenario_reads : (table : Table) (name : List ℕ) (m : Option Contents) (k : FileKind) (n : List ℕ) → ReadsNext (scenario_plan table name) m k n → (kinds.Scenario ≡ k) × (name ≡ n)
+pub scenario_reads : (table : Table) (name : List ℕ) (m : Option Contents) (k : FileKind) (n : List ℕ) → ReadsNext (scenario_plan table name) m k n → (kinds.Scenario ≡ k) × (name ≡ n)
 unfolding scenario_plan
 scenario_reads table name m k n h = one_file _ name _ _ m k n h
 
@@ -43,30 +40,18 @@ unfolding precedence_plan
 precedence_reads table None m k n h = absurd h
 precedence_reads table (Some name) m k n h = inl (one_file _ name _ _ m k n h)
 
-table_reads : (jobs : List ℕ) (prec : Option (List ℕ)) (m : Option Contents) (k : FileKind) (n : List ℕ) → ReadsNext (table_plan jobs prec) m k n → IsAmongFiles ((kinds.Jobs, jobs) ∷ precedence_file prec) k n
+pub table_reads : (jobs : List ℕ) (prec : Option (List ℕ)) (m : Option Contents) (k : FileKind) (n : List ℕ) → ReadsNext (table_plan jobs prec) m k n → IsAmongFiles ((kinds.Jobs, jobs) ∷ precedence_file prec) k n
 unfolding table_plan
 table_reads jobs prec m k n h = elim (reads_split (jobs_plan jobs) (λ table. precedence_plan table prec) m k n h) [
   | inl x ↦ inl (jobs_reads jobs m k n x)
   | inr x ↦ inr (precedence_reads x.0 prec m k n x.1)
 ]
 
-among_first : (files more : List (FileKind × List ℕ)) (k : FileKind) (n : List ℕ) → IsAmongFiles files k n → IsAmongFiles (files ++ more) k n
+pub among_first : (files more : List (FileKind × List ℕ)) (k : FileKind) (n : List ℕ) → IsAmongFiles files k n → IsAmongFiles (files ++ more) k n
 among_first [] more k n h = absurd h
 among_first (file ∷ files) more k n (inl h) = inl h
 among_first (file ∷ files) more k n (inr h) = inr (among_first files more k n h)
 
-among_more : (files more : List (FileKind × List ℕ)) (k : FileKind) (n : List ℕ) → IsAmongFiles more k n → IsAmongFiles (files ++ more) k n
+pub among_more : (files more : List (FileKind × List ℕ)) (k : FileKind) (n : List ℕ) → IsAmongFiles more k n → IsAmongFiles (files ++ more) k n
 among_more [] more k n h = h
 among_more (file ∷ files) more k n h = inr (among_more files more k n h)
-
-pub command_reads : (c : Command) (m : Option Contents) (k : FileKind) (n : List ℕ) → ReadsNext (command_plan c) m k n → IsAmongFiles (files_of c) k n
-command_reads (commands.Replay jobs scenario prec cores) m k n h =
-    let table_files : List (FileKind × List ℕ) = (kinds.Jobs, jobs) ∷ precedence_file prec in
-    let scenario_files : List (FileKind × List ℕ) = (kinds.Scenario, scenario) ∷ [] in
-    elim (reads_split (table_plan jobs prec) _ m k n h) [
-      | inl x ↦ among_first table_files scenario_files k n (table_reads jobs prec m k n x)
-      | inr x ↦ elim (reads_split (scenario_plan x.0 scenario) (λ rows. Ends (Ok (Replays x.0 cores rows))) m k n x.1) [
-        | inl y ↦ among_more table_files scenario_files k n (inl (scenario_reads x.0 scenario m k n y))
-        | inr y ↦ absurd y.1
-      ]
-    ]

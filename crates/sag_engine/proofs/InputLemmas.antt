@@ -5,8 +5,6 @@ use Rattle.job_model.specs.Table.{Table, IsTable}
 use Rattle.job_model.specs.Scenario.{Fits}
 use Rattle.sag_engine.specs.Plan.{ComesTo, file_plan}
 use Rattle.sag_engine.specs.Inputs.{JobsJudged, PrecedenceJudged, ScenarioJudged, jobs_plan, precedence_plan, scenario_plan, table_plan}
-use Rattle.sag_engine.specs.Work.{Work, replay_plan}
-use Rattle.sag_engine.specs.Work.Work.{Replays}
 use Rattle.sag_engine.proofs.PlanLemmas.{comes_split, judged_so}
 
 -- a file that was judged and accepted
@@ -41,24 +39,3 @@ unfolding scenario_plan
 accepted_fits table name m rows h =
     let s = comes_split (file_plan _ name _) _ m rows h in
     (judged_so (ScenarioJudged table s.0) m (Ok rows) s.2).1
-
--- what a replay comes to: the run of a scenario that fits its table, on the cores of the command
-pub record AcceptedRun (cores : ℕ) (work : Work) : Type 0 where
-  pub table : Table
-  pub rows : List (ℕ × ℕ)
-  pub is_table : IsTable table
-  pub fits : Fits table rows
-  pub work_is : work ≡ Replays table cores rows
-
-pub accepted_run : (jobs scenario : List ℕ) (prec : Option (List ℕ)) (cores : ℕ) (m : Option Contents) (work : Work)
-    → ComesTo (replay_plan jobs scenario prec cores) m (Ok work) → AcceptedRun cores work
-accepted_run jobs scenario prec cores m work h =
-    let s = comes_split (table_plan jobs prec) _ m work h in
-    let r = comes_split (scenario_plan s.0 scenario) _ m work s.2 in
-    record {
-      table = s.0;
-      rows = r.0;
-      is_table = accepted_table jobs prec m s.0 s.1;
-      fits = accepted_fits s.0 scenario m r.0 r.1;
-      work_is = let same : Replays s.0 cores r.0 ≡ work = cc in sym same;
-    }

@@ -1,9 +1,12 @@
-pub mod PlanLemmas
-pub mod PrintLemmas
-pub mod FileLemmas
-pub mod InputLemmas
-pub mod PrecedenceLemmas
-pub mod RunLemmas
-pub mod OnePlan
-pub mod OneJudgement
-pub mod OneAnswer
+mod PlanLemmas
+mod PrintLemmas
+mod FileLemmas
+mod InputLemmas
+mod PrecedenceLemmas
+mod OnePlan
+mod OneJudgement
+mod OneInputs
+mod ReplayLemmas
+mod CommandLemmas
+mod RunLemmas
+mod OneAnswer

@@ -7,11 +7,11 @@ use Rattle.sag_edge.proofs.WriteLemmas.{rose_on}
 use Rattle.sag_texts.specs.declared.fault.FileKind.{FileKind}
 use Rattle.sag_texts.specs.declared.fault.Fault.{Fault}
 use Rattle.sag_texts.specs.declared.fault.Fault.TheVariants.{TooLong}
-use Rattle.sag_engine.specs.declared.ends.Halt.{Halt}
-use Rattle.sag_engine.specs.declared.ends.Halt.TheVariants.{Usage, Refused, Read, Write, Memory}
+use Rattle.sag_engine.specs.declared.halt.Halt.{Halt}
+use Rattle.sag_engine.specs.declared.halt.Halt.TheVariants.{Usage, Refused, Read, Write, Memory}
 use Rattle.sag_engine.specs.Plan.{Plan, ◌>>=◌, ComesTo, ReadsNext, file_plan, judged}
 use Rattle.sag_engine.specs.Plan.Plan.{Ends, Reads, Judges}
-use Rattle.sag_engine.specs.Ends.{EndsBy, Follows, EndsJudging, Judged}
+use Rattle.sag_engine.specs.RunEnds.{EndsBy, Follows, EndsJudging, Judged}
 
 pub comes_then : {A B : Type 0} (p : Plan (Result A Fault)) (q : A → Plan (Result B Fault)) (m : Option Contents) (a : A) (w : Result B Fault) → ComesTo p m (Ok a) → ComesTo (q a) m w → ComesTo (p >>= q) m w
 comes_then (Ends (Ok b)) q m a w h k = let e : b ≡ a = cc in rw e k

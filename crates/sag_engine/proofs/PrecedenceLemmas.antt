@@ -2,9 +2,9 @@
 use Rattle.std.proofs.Common.{ℕ, inl, inr, List, Result, Ok, Err}
 use Rattle.job_model.specs.Table.{Table}
 use Rattle.side_csv.specs.PrecedenceText.{PrecedenceText}
-use Rattle.sag_engine.specs.declared.ends.Halt.{Halt}
-use Rattle.sag_engine.specs.declared.ends.Halt.TheVariants.{Usage, Refused, Read, Write, Memory}
-use Rattle.sag_engine.specs.Ends.{EndsJudging, Judged}
+use Rattle.sag_engine.specs.declared.halt.Halt.{Halt}
+use Rattle.sag_engine.specs.declared.halt.Halt.TheVariants.{Usage, Refused, Read, Write, Memory}
+use Rattle.sag_engine.specs.RunEnds.{EndsJudging, Judged}
 use Rattle.sag_engine.specs.Inputs.{PrecedenceJudged}
 use Rattle.sag_engine.specs.PrecedenceSteps.{EdgesJoined, EdgesNamed}
 

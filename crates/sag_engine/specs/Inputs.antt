@@ -12,7 +12,7 @@ use Rattle.std.specs.Prelude.{ℕ, ◌≡◌, ◌≢◌, ◌<◌, ◌⊎◌, Lis
 use Rattle.csv_numbers.specs.Rows.{FirstFault}
 use Rattle.csv_numbers.specs.declared.fault.CsvFault.{CsvFault}
 use Rattle.csv_numbers.specs.declared.fault.CsvFault.TheVariants as csv
-use Rattle.job_model.specs.declared.Job.{Job}
+use Rattle.job_model.specs.declared.job_row.Job.{Job}
 use Rattle.job_model.specs.declared.fault.TableFault.{TableFault}
 use Rattle.job_model.specs.declared.fault.TableFault.TheVariants as table
 use Rattle.job_model.specs.declared.fault.EdgeFault.{EdgeFault}
@@ -27,7 +27,7 @@ use Rattle.side_csv.specs.declared.fault.SideFault.TheVariants as side
 use Rattle.side_csv.specs.PrecedenceText.{PrecedenceText}
 use Rattle.side_csv.specs.PrecedenceFaults.{FirstPrecedenceFault}
 use Rattle.side_csv.specs.ScenarioText.{ScenarioText}
-use Rattle.side_csv.specs.ScenarioFaults.{FirstSideFault}
+use Rattle.side_csv.specs.ScenarioFaults.{FirstScenarioFault}
 use Rattle.sag_texts.specs.declared.fault.FileKind.TheVariants as kinds
 use Rattle.sag_texts.specs.declared.fault.Fault.{Fault}
 use Rattle.sag_texts.specs.declared.fault.Fault.TheVariants as faults
@@ -73,7 +73,7 @@ IsOfTable table other = ⊤
 
 -- The first rule that a scenario file breaks. Want of memory is no refusal.
 abbrev pub ScenarioRefused : Table → List ℕ → Fault → Type 0
-ScenarioRefused table bytes fault = (e : SideFault) × (fault ≡ told_fault table e) × (e ≢ side.Memory) × FirstSideFault table bytes e
+ScenarioRefused table bytes fault = (e : SideFault) × (fault ≡ told_fault table e) × (e ≢ side.Memory) × FirstScenarioFault table bytes e
 
 -- the scenario of a scenario file, or the first rule that the file breaks
 abbrev pub ScenarioJudged : Table → List ℕ → Result (List (ℕ × ℕ)) Fault → Type 0

@@ -7,7 +7,7 @@
 use Rattle.std.specs.Prelude.{ℕ, ◌≡◌, List, Some}
 use Rattle.sag_edge.specs.Contents.{Contents}
 use Rattle.sag_edge.specs.Reading.{SeenFiles}
-use Rattle.sag_edge.specs.Writing.{SeenSink, Takes}
+use Rattle.sag_edge.specs.Writing.{SeenSink, GrowsBy}
 use Rattle.sag_engine.specs.declared.status.Status.{Status}
 use Rattle.sag_engine.specs.Promises as promise
 use Rattle.sag_engine.specs.Promises.{Answers, ComesOut, Explains, Outcome, Told}
@@ -37,8 +37,8 @@ pub record IsAnswered (words : List (List ℕ)) (contents : Contents) (call : Se
 pub record HaveOneEnd (one other : SeenCall) : Type 0 where
   pub status : one.status ≡ other.status
   pub output : List ℕ
-  pub printed : Takes one.out.taken one.out'.taken output
-  pub printed_too : Takes other.out.taken other.out'.taken output
+  pub printed : GrowsBy one.out.taken one.out'.taken output
+  pub printed_too : GrowsBy other.out.taken other.out'.taken output
   pub text : List ℕ
   pub told : Told text one.err one.err'
   pub told_too : Told text other.err other.err'

@@ -3,6 +3,8 @@ pub mod Plan
 pub mod Inputs
 pub mod PrecedenceSteps
 pub mod Work
-pub mod Ends
+pub mod Replay
+pub mod Commands
+pub mod RunEnds
 pub mod Promises
 pub mod Laws

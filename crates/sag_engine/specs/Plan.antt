@@ -3,6 +3,7 @@
 --     p >>= q                      q goes on where p accepts; the first refusal ends the whole
 --     file_plan kind name limit    the whole file of that name, of at most so many bytes
 --     judged R                     a value that R accepts or refuses
+--     AreBytesOf m name bytes     these are the bytes of the named file, where the files are known
 --     ComesTo plan m v             over the files m the plan comes to v
 --     ReadsNext plan m kind name   the plan comes to the reading of that file, all files before it being accepted
 use Rattle.std.specs.Prelude.{ℕ, ◌≡◌, ◌⊎◌, List, length, nat_lt, if◌then◌else◌, Result, Ok, Err, None, Some, ⊤}
@@ -36,19 +37,19 @@ abbrev pub judged : {A : Type 0} → (Result A Fault → Type 0) → Plan (Resul
 judged {A = A} Holds = Judges (Result A Fault) Holds (λ end. Ends end)
 
 -- these are the bytes of the named file, where the files are known
-abbrev pub Tells : Option Contents → List ℕ → List ℕ → Type 0
-Tells None name bytes = ⊤
-Tells (Some m) name bytes = bytes ≡ bytes_at m name
+abbrev pub AreBytesOf : Option Contents → List ℕ → List ℕ → Type 0
+AreBytesOf None name bytes = ⊤
+AreBytesOf (Some m) name bytes = bytes ≡ bytes_at m name
 
 -- the plan comes to this value, over some bytes for each file, which are those of the files where they are known
 abbrev pub ComesTo : {V : Type 0} → Plan V → Option Contents → V → Type 0
 ComesTo (Ends v) m w = v ≡ w
-ComesTo (Reads kind name go) m w = (bytes : List ℕ) × Tells m name bytes × ComesTo (go bytes) m w
+ComesTo (Reads kind name go) m w = (bytes : List ℕ) × AreBytesOf m name bytes × ComesTo (go bytes) m w
 ComesTo (Judges A Holds go) m w = (a : A) × Holds a × ComesTo (go a) m w
 
 -- the plan comes to the reading of this file, all files before it being accepted
 abbrev pub ReadsNext : {V : Type 0} → Plan V → Option Contents → FileKind → List ℕ → Type 0
 ReadsNext (Ends v) m kind name = ⊥
 ReadsNext (Reads first file go) m kind name =
-    ((first ≡ kind) × (file ≡ name)) ⊎ ((bytes : List ℕ) × Tells m file bytes × ReadsNext (go bytes) m kind name)
+    ((first ≡ kind) × (file ≡ name)) ⊎ ((bytes : List ℕ) × AreBytesOf m file bytes × ReadsNext (go bytes) m kind name)
 ReadsNext (Judges A Holds go) m kind name = (a : A) × Holds a × ReadsNext (go a) m kind name

@@ -2,32 +2,24 @@
 --     texts words                  the words as lists of bytes
 --     Outcome                      what the words come to: no command, a refusal, or a reply
 --     ComesOut words m outcome     over the files m the words come to this
---     PrintsRun, PrintsRuns        the run that a replay printed
 --     Answers .. Told              the other clauses
-use Rattle.std.specs.Prelude.{ℕ, ◌≡◌, ◌<◌, ◌⊎◌, List, [], String, length, map, string_bytes, Ok, Err, Option, Some, ⊤}
+use Rattle.std.specs.Prelude.{ℕ, ◌≡◌, ◌≤◌, ◌⊎◌, List, [], String, map, string_bytes, Ok, Err, Option, Some, ⊤}
 use Rattle.sag_edge.specs.Causes.{Rose}
 use Rattle.sag_edge.specs.Contents.{Contents}
 use Rattle.sag_edge.specs.Reading.{SeenFiles}
-use Rattle.sag_edge.specs.Writing.{SeenSink, Takes, TakesPrefix}
+use Rattle.sag_edge.specs.Writing.{SeenSink, GrowsBy, GrowsByPrefix, StillTells}
 use Rattle.sag_texts.specs.declared.fault.FileKind.{FileKind}
 use Rattle.sag_texts.specs.declared.fault.Fault.{Fault}
 use Rattle.sag_texts.specs.declared.fault.Fault.TheVariants as faults
 use Rattle.sag_texts.specs.FaultTexts.{fault_text}
-use Rattle.sag_words.specs.declared.Command.{Command}
-use Rattle.sag_words.specs.declared.Command.TheVariants as commands
+use Rattle.sag_words.specs.declared.command.Command.{Command}
 use Rattle.sag_words.specs.Words.{WordsOf}
-use Rattle.job_model.specs.Scenario.{Fits}
-use Rattle.job_model.specs.Table.{IsTable, Table}
-use Rattle.run_meaning.specs.declared.Place.{Place}
-use Rattle.run_meaning.specs.Legal.{Legal, LowestIdle}
-use Rattle.run_meaning.specs.Ready.{start_of}
-use Rattle.replay.specs.ScheduleText.{schedule_text}
 use Rattle.sag_engine.specs.declared.status.Status.{Status}
 use Rattle.sag_engine.specs.declared.status.Status.TheVariants as statuses
 use Rattle.sag_engine.specs.Plan.{ComesTo, ReadsNext}
-use Rattle.sag_engine.specs.Work.{Work, Reply, command_plan, replay_plan, files_of, IsAmongFiles}
-use Rattle.sag_engine.specs.Work.Work.{Replays}
-use Rattle.sag_engine.specs.Ends.{Gives, AsksNothing, verdict_status}
+use Rattle.sag_engine.specs.Work.{Work, Reply, IsAmongFiles}
+use Rattle.sag_engine.specs.Commands.{command_plan, files_of}
+use Rattle.sag_engine.specs.RunEnds.{Gives, AsksNothing, conclusion_status, conclusion_text}
 
 -- the words as lists of bytes
 abbrev pub texts : {A : Type 0} → List (String A) → List (List ℕ)
@@ -46,10 +38,11 @@ ComesOut words m NoCommand = AsksNothing words
 ComesOut words m (Refusal fault) = (command : Command) × WordsOf words command × ComesTo (command_plan command) m (Err fault)
 ComesOut words m (Output reply) = (command : Command) × WordsOf words command × Gives (command_plan command) m reply
 
+-- the status of an outcome
 abbrev pub outcome_status : Outcome → Status
 outcome_status NoCommand = statuses.Usage
 outcome_status (Refusal fault) = statuses.Refused
-outcome_status (Output reply) = verdict_status reply.verdict
+outcome_status (Output reply) = conclusion_status reply.conclusion
 
 -- what goes to the output
 abbrev pub outcome_bytes : Outcome → List ℕ
@@ -61,7 +54,7 @@ outcome_bytes (Output reply) = reply.bytes
 abbrev pub outcome_text : Outcome → List ℕ
 outcome_text NoCommand = fault_text faults.Usage
 outcome_text (Refusal fault) = fault_text fault
-outcome_text (Output reply) = []
+outcome_text (Output reply) = conclusion_text reply.conclusion
 
 -- the status is no fault and no want of memory
 abbrev pub IsAnswered : Status → Type 0
@@ -81,7 +74,7 @@ IsDone other = ⊥
 abbrev pub Answers : List (List ℕ) → SeenFiles → SeenSink → SeenSink → Status → Type 0
 Answers words files out out' status = IsAnswered status →
     (outcome : Outcome) × ComesOut words files.contents outcome × (status ≡ outcome_status outcome)
-    × Takes out.taken out'.taken (outcome_bytes outcome)
+    × GrowsBy out.taken out'.taken (outcome_bytes outcome)
 
 -- a fault of a file of the command, after the files before it were accepted
 pub record ReadCause (words : List (List ℕ)) (files files' : SeenFiles) (kind : FileKind) : Type 0 where
@@ -103,36 +96,21 @@ HasWriteCause words files out out' status = status ≡ statuses.WriteFault → R
 
 -- what was appended is nothing, or the first bytes of what may be printed
 abbrev pub KeepsPrefix : List (List ℕ) → SeenFiles → SeenSink → SeenSink → Type 0
-KeepsPrefix words files out out' = Takes out.taken out'.taken []
-    ⊎ ((reply : Reply) × ComesOut words files.contents (Output reply) × TakesPrefix out.taken out'.taken reply.bytes)
+KeepsPrefix words files out out' = GrowsBy out.taken out'.taken []
+    ⊎ ((reply : Reply) × ComesOut words files.contents (Output reply) × GrowsByPrefix out.taken out'.taken reply.bytes)
 
--- The run of the scenario that the files give was printed: a schedule that is legal, with each job on the lowest idle core.
--- Every schedule that is legal for this scenario on these cores has the same starts, and with each job on the lowest idle core
--- it is this one.
-pub record PrintsRun (jobs scenario : List ℕ) (prec : Option (List ℕ)) (cores : ℕ) (files : SeenFiles) (out out' : SeenSink) : Type 0 where
-  pub table : Table
-  -- the release and the cost of each job
-  pub rows : List (ℕ × ℕ)
-  pub comes : ComesTo (replay_plan jobs scenario prec cores) files.contents (Ok (Replays table cores rows))
-  pub is_table : IsTable table
-  pub fits : Fits table rows
-  pub schedule : List Place
-  pub legal : Legal table cores rows schedule
-  pub lowest_idle : LowestIdle table rows schedule
-  pub same_starts : (other : List Place) → Legal table cores rows other
-      → (j : ℕ) → j < length table.jobs → start_of other j ≡ start_of schedule j
-  pub one_run : (other : List Place) → Legal table cores rows other → LowestIdle table rows other → other ≡ schedule
-  pub printed : Takes out.taken out'.taken (schedule_text table rows schedule)
+-- The output goes on telling its bytes where it has room for what may be printed.
+abbrev pub KeepsTelling : List (List ℕ) → SeenFiles → SeenSink → SeenSink → Type 0
+KeepsTelling words files out out' = StillTells out out' []
+    ⊎ ((reply : Reply) × ComesOut words files.contents (Output reply) × StillTells out out' reply.bytes)
 
--- where the words ask for a replay and it was done, the run of its scenario was printed
-abbrev pub PrintsRuns : List (List ℕ) → SeenFiles → SeenSink → SeenSink → Status → Type 0
-PrintsRuns words files out out' status = status ≡ statuses.Ok → (jobs scenario : List ℕ) (prec : Option (List ℕ)) (cores : ℕ)
-    → WordsOf words (commands.Replay jobs scenario prec cores) → PrintsRun jobs scenario prec cores files out out'
-
--- these bytes went to the errors, or the first of them where a fault was counted
+-- these bytes went to the errors, or the first of them where a fault was counted; where there is room for them it goes on
+-- telling
 pub record Told (text : List ℕ) (old new : SeenSink) : Type 0 where
-  pub prefix : TakesPrefix old.taken new.taken text
-  pub whole : ¬ Rose old.faults new.faults → Takes old.taken new.taken text
+  pub prefix : GrowsByPrefix old.taken new.taken text
+  pub whole : ¬ Rose old.faults new.faults → GrowsBy old.taken new.taken text
+  pub later : old.faults ≤ new.faults
+  pub tells : StillTells old new text
 
 -- what went to the errors is the text of what the words come to
 abbrev pub Explains : List (List ℕ) → SeenFiles → SeenSink → SeenSink → Status → Type 0

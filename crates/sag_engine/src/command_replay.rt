@@ -1,14 +1,14 @@
-// The command `replay`.
+//! The command `replay`.
 
 ghost use Rattle.std.specs.Prelude.{◌≡◌, ◌≤◌, IfOk};
-ghost use Rattle.job_model.specs.declared.TheConstants.{MOST_CORES};
+ghost use Rattle.job_model.specs.declared.limits.TheConstants.{MOST_CORES};
 ghost use Rattle.job_model.specs.Scenario.{Fits};
-ghost use Rattle.sag_engine.specs.declared.ends.Verdict.TheVariants.{Done};
-ghost use Rattle.sag_engine.specs.Ends.{Runs};
-ghost use Rattle.sag_engine.specs.Work.{Replies, replay_plan};
-ghost use Rattle.sag_engine.specs.Work.Work.{Replays};
+ghost use Rattle.sag_engine.specs.declared.conclusion.Conclusion.TheVariants.{Done};
+ghost use Rattle.sag_engine.specs.RunEnds.{Runs};
+ghost use Rattle.sag_engine.specs.Replay.{IsRunReply, replay_plan};
 
-use crate::ends::{Halt, Verdict};
+use crate::conclusion::Conclusion;
+use crate::halt::Halt;
 use crate::inputs::{read_scenario_file, read_table};
 use crate::outputs::print;
 use job_model::{JobTable, Scenario};
@@ -26,8 +26,8 @@ fn schedule_of(
     requires some_core { 1 ≤ cores }
     requires few_cores { cores ≤ MOST_CORES }
     requires fits { Fits table.now scenario.now }
-    ensures { IfOk result (λ text. Replies (Replays table.now cores scenario.now)
-        (record { verdict = Done; bytes = text.items })) }
+    ensures { IfOk result (λ text. IsRunReply table.now cores scenario.now
+        (record { conclusion = Done; bytes = text.items })) }
 {
     let schedule = replay(alloc, table, cores, scenario)?;
     write_schedule(alloc, table, scenario, &schedule)
@@ -42,7 +42,7 @@ pub(crate) fn run_replay<F: Files, O: Sink>(
     scenario: FileName,
     prec: Option<FileName>,
     cores: u16,
-) -> Result<Verdict, Halt>
+) -> Result<Conclusion, Halt>
     requires some_core { 1 ≤ cores }
     requires few_cores { cores ≤ MOST_CORES }
     ensures { Runs (replay_plan jobs scenario prec cores) (F.seen files.old) (F.seen files.new)
@@ -51,7 +51,7 @@ pub(crate) fn run_replay<F: Files, O: Sink>(
     let table = read_table(alloc, files, jobs, prec)?;
     let scenario = read_scenario_file(alloc, files, &table, scenario)?;
     match schedule_of(alloc, &table, cores, &scenario) {
-        Ok(text) => print(out, &text, Verdict::Done),
+        Ok(text) => print(out, &text, Conclusion::Done),
         Err(_) => Err(Halt::Memory),
     }
 }

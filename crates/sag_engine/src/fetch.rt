@@ -1,10 +1,10 @@
-// Reading a file whole.
+//! Reading a file whole.
 
 ghost use Rattle.std.specs.Prelude.{◌≡◌, ℕ, ◌≤◌, ◌^◌, List};
 ghost use Rattle.sag_engine.specs.Plan.{file_plan};
-ghost use Rattle.sag_engine.specs.Ends.{Follows};
+ghost use Rattle.sag_engine.specs.RunEnds.{Follows};
 
-use crate::ends::{Halt, Refusal};
+use crate::halt::{Halt, Refusal};
 use sag_edge::{FileName, Files, ReadAnswer, read_all};
 use sag_texts::{Fault, FileKind};
 use std::alloc::Global;

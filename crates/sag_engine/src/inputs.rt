@@ -1,14 +1,14 @@
-// The files of the subject, read and judged.
+//! The files of the subject, read and judged.
 
 ghost use Rattle.std.specs.Prelude.{◌≡◌, ℕ, Err, IfOk, List, [], length};
 ghost use Rattle.job_model.specs.Neighbours.{JoinJobs};
 ghost use Rattle.sag_texts.specs.FaultTexts.{HasText};
 ghost use Rattle.sag_engine.specs.Inputs.{IsOfTable, JobsJudged, PrecedenceJudged, ScenarioJudged, jobs_plan, precedence_plan, scenario_plan, table_plan, told_fault};
 ghost use Rattle.sag_engine.specs.PrecedenceSteps.{EdgesJoined, EdgesNamed};
-ghost use Rattle.sag_engine.specs.Ends.{Follows, Judged};
+ghost use Rattle.sag_engine.specs.RunEnds.{Follows, Judged};
 
-use crate::ends::{Halt, Refusal};
 use crate::fetch::{MOST_FILE_BYTES, fetch};
+use crate::halt::{Halt, Refusal};
 use job_csv::{CsvFault, read_jobs};
 use job_model::{EdgeFault, JobNo, JobTable, Scenario, TableFault};
 use sag_edge::{FileName, Files};

@@ -1,13 +1,42 @@
-// Laws of the top call.
+//! Laws of the top call.
 
 ghost use Rattle.sag_engine.specs.Laws.{CallsAgree, OneAnswer};
+
+use csv_numbers::{one_first_fault, rows_keep_rules};
+use job_csv::one_job_list;
+use job_model::{edges_keep_rules, one_edge_fault, one_table_fault, tables_keep_rules};
+use run_meaning::one_run;
+use sag_words::one_command;
+use side_csv::{
+    one_precedence, one_precedence_fault, one_scenario, one_scenario_fault, precedence_keeps_rules,
+    scenarios_keep_rules,
+};
 
 /// Over known files the words come to one outcome.
 pub fn one_answer()
     ensures { OneAnswer }
-{}
+{
+    // the words fix the command, the bytes of its files what they hold or their first fault, and the work its reply
+    one_command();
+    rows_keep_rules();
+    one_first_fault();
+    one_job_list();
+    tables_keep_rules();
+    one_table_fault();
+    edges_keep_rules();
+    one_edge_fault();
+    one_precedence();
+    one_precedence_fault();
+    precedence_keeps_rules();
+    one_scenario();
+    one_scenario_fault();
+    scenarios_keep_rules();
+    one_run();
+}
 
 /// The same words and the same bytes of files give one status, one output and one text on the errors.
 pub fn calls_agree()
     ensures { CallsAgree }
-{}
+{
+    one_answer();
+}

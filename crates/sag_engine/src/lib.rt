@@ -2,8 +2,10 @@
 #![tactic(auto)]
 
 mod command_replay;
-mod ends;
+mod conclusion;
+mod explain;
 mod fetch;
+mod halt;
 mod inputs;
 mod laws;
 mod outputs;

@@ -1,9 +1,10 @@
-// Writing what a command prints.
+//! Writing what a command prints.
 
 ghost use Rattle.std.specs.Prelude.{◌≡◌, ℕ, List, [], IfOk, IsTrue};
-ghost use Rattle.sag_engine.specs.Ends.{Writes, Prints};
+ghost use Rattle.sag_engine.specs.RunEnds.{Writes, Prints};
 
-use crate::ends::{Halt, Verdict};
+use crate::conclusion::Conclusion;
+use crate::halt::Halt;
 use sag_edge::{Sink, write_whole};
 
 // Appends bytes to the output.
@@ -17,21 +18,25 @@ fn deliver<O: Sink>(out: &mut O, bytes: &[u8]) -> Result<(), Halt>
 }
 
 // Ends the output.
-fn close<O: Sink>(out: &mut O, verdict: Verdict) -> Result<Verdict, Halt>
+fn close<O: Sink>(out: &mut O, conclusion: Conclusion) -> Result<Conclusion, Halt>
     ensures writes { Writes [] (O.seen out.old) (O.seen out.new) result }
-    ensures verdict { IfOk result (λ told. (told ≡ verdict) × IsTrue (O.seen out.new).finished) }
+    ensures conclusion { IfOk result (λ told. (told ≡ conclusion) × IsTrue (O.seen out.new).finished) }
 {
     match out.finish() {
-        Ok(()) => Ok(verdict),
+        Ok(()) => Ok(conclusion),
         Err(_) => Err(Halt::Write),
     }
 }
 
 /// Prints the whole output of a command.
-pub(crate) fn print<O: Sink>(out: &mut O, bytes: &[u8], verdict: Verdict) -> Result<Verdict, Halt>
-    ensures { Prints (record { verdict = verdict; bytes = bytes.now })
+pub(crate) fn print<O: Sink>(
+    out: &mut O,
+    bytes: &[u8],
+    conclusion: Conclusion,
+) -> Result<Conclusion, Halt>
+    ensures { Prints (record { conclusion = conclusion; bytes = bytes.now })
         (O.seen out.old) (O.seen out.new) result }
 {
     deliver(out, bytes)?;
-    close(out, verdict)
+    close(out, conclusion)
 }

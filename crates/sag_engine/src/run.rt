@@ -1,17 +1,20 @@
-// The top call.
+//! The top call.
 
-ghost use Rattle.std.specs.Prelude.{◌≡◌, ℕ, List, [], IsTrue};
-ghost use Rattle.sag_edge.specs.Writing.{Takes};
-ghost use Rattle.sag_engine.specs.Work.{HasCores, command_plan};
-ghost use Rattle.sag_engine.specs.Ends.{Runs, Works, end_status, end_text};
-ghost use Rattle.sag_engine.specs.Promises.{Answers, ExplainsFault, HasReadCause, Explains, HasWriteCause, IsDone, KeepsPrefix, PrintsRuns, Told, texts};
+ghost use Rattle.std.specs.Prelude.{◌≡◌, ◌≤◌, ℕ, List, [], IsTrue};
+ghost use Rattle.sag_edge.specs.Writing.{GrowsBy};
+ghost use Rattle.sag_engine.specs.Commands.{HasCores, command_plan};
+ghost use Rattle.sag_engine.specs.Replay.{PrintsRuns};
+ghost use Rattle.sag_engine.specs.RunEnds.{Runs, Works};
+ghost use Rattle.sag_engine.specs.Promises.{Answers, ExplainsFault, HasReadCause, Explains, HasWriteCause, IsDone, KeepsPrefix, KeepsTelling, texts};
 
 use crate::command_replay::run_replay;
-use crate::ends::{Halt, Verdict};
-use crate::status::Status;
+use crate::conclusion::Conclusion;
+use crate::explain::explain;
+use crate::halt::Halt;
+use crate::status::{Status, status_of};
+use run_meaning::{one_run, starts_agree};
 use sag_edge::{Files, Sink};
-use sag_texts::{Fault, write_fault};
-use sag_words::{Command, WordFault, read_words};
+use sag_words::{Command, WordFault, one_command, read_words};
 use std::alloc::Global;
 
 // Does what a command asks for.
@@ -20,7 +23,7 @@ fn run_command<F: Files, O: Sink>(
     command: Command,
     files: &mut F,
     out: &mut O,
-) -> Result<Verdict, Halt>
+) -> Result<Conclusion, Halt>
     requires { HasCores command }
     ensures { Runs (command_plan command) (F.seen files.old) (F.seen files.new)
         (O.seen out.old) (O.seen out.new) result }
@@ -41,7 +44,7 @@ fn work<F: Files, O: Sink>(
     words: &[String],
     files: &mut F,
     out: &mut O,
-) -> Result<Verdict, Halt>
+) -> Result<Conclusion, Halt>
     ensures { Works (texts words.now) (F.seen files.old) (F.seen files.new)
         (O.seen out.old) (O.seen out.new) result }
 {
@@ -49,42 +52,6 @@ fn work<F: Files, O: Sink>(
         Ok(command) => run_command(alloc, command, files, out),
         Err(WordFault::Usage) => Err(Halt::Usage),
         Err(WordFault::Memory) => Err(Halt::Memory),
-    }
-}
-
-// Tells why the work stopped.
-fn tell<E: Sink>(err: &mut E, halt: &Halt)
-    ensures { Told (end_text (Err halt.now)) (E.seen err.old) (E.seen err.new) }
-{
-    let _ = match halt {
-        Halt::Usage => write_fault(err, &Fault::Usage),
-        Halt::Refused(refusal) => write_fault(err, refusal.fault()),
-        Halt::Read(kind) => write_fault(err, &Fault::CannotRead(*kind)),
-        Halt::Write => write_fault(err, &Fault::CannotWrite),
-        Halt::Memory => write_fault(err, &Fault::NoMemory),
-    };
-}
-
-// Tells why the work stopped, where it did.
-fn explain<E: Sink>(err: &mut E, end: &Result<Verdict, Halt>)
-    ensures { Told (end_text end.now) (E.seen err.old) (E.seen err.new) }
-{
-    if let Err(halt) = end {
-        tell(err, halt);
-    }
-}
-
-// The status of an end.
-fn status_of(end: &Result<Verdict, Halt>) -> Status
-    ensures { result ≡ end_status end.now }
-{
-    match end {
-        Ok(Verdict::Done) => Status::Ok,
-        Err(Halt::Usage) => Status::Usage,
-        Err(Halt::Refused(_)) => Status::Refused,
-        Err(Halt::Read(_)) => Status::ReadFault,
-        Err(Halt::Write) => Status::WriteFault,
-        Err(Halt::Memory) => Status::Memory,
     }
 }
 
@@ -104,13 +71,25 @@ pub fn sag_run<F: Files, O: Sink, E: Sink>(
     ensures runs { PrintsRuns (texts words.now) (F.seen files.old) (O.seen out.old) (O.seen out.new) result }
     ensures finished { IsDone result → IsTrue (O.seen out.new).finished }
     ensures read_fault { HasReadCause (texts words.now) (F.seen files.old) (F.seen files.new) result }
-    ensures none_on_read_fault { result ≡ Status.ReadFault → Takes (O.seen out.old).taken (O.seen out.new).taken [] }
+    ensures none_on_read_fault { result ≡ Status.ReadFault → GrowsBy (O.seen out.old).taken (O.seen out.new).taken [] }
     ensures write_fault { HasWriteCause (texts words.now) (F.seen files.old) (O.seen out.old) (O.seen out.new) result }
     ensures prefix { KeepsPrefix (texts words.now) (F.seen files.old) (O.seen out.old) (O.seen out.new) }
     ensures text { Explains (texts words.now) (F.seen files.old) (E.seen err.old) (E.seen err.new) result }
     ensures fault_text { ExplainsFault (texts words.now) (F.seen files.old) (F.seen files.new)
         (E.seen err.old) (E.seen err.new) result }
+
+    // What a caller can go on with: the files stay, no count falls, and a sink with room goes on telling its bytes. That
+    // `err` does stands in `text` and `fault_text`.
+    ensures contents { (F.seen files.new).contents ≡ (F.seen files.old).contents }
+    ensures later { ((F.seen files.old).faults ≤ (F.seen files.new).faults)
+        × ((O.seen out.old).faults ≤ (O.seen out.new).faults)
+        × ((E.seen err.old).faults ≤ (E.seen err.new).faults) }
+    ensures tells { KeepsTelling (texts words.now) (F.seen files.old) (O.seen out.old) (O.seen out.new) }
 {
+    // the laws on which the clauses rest
+    one_command();
+    one_run();
+    starts_agree();
     let end = work(alloc, words, files, out);
     explain(err, &end);
     status_of(&end)

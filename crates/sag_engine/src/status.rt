@@ -1,5 +1,11 @@
+//! The statuses, and their numbers.
+
 ghost use Rattle.std.specs.Prelude.{◌≡◌};
+ghost use Rattle.sag_engine.specs.RunEnds.{run_status};
 ghost use Rattle.sag_engine.specs.Status.{status_number};
+
+use crate::conclusion::Conclusion;
+use crate::halt::Halt;
 
 /// How a run of the program ends.
 #[derive(Clone, Copy, Debug, PartialEq, Eq)]
@@ -37,5 +43,21 @@ impl Status {
             Status::WriteFault => 6,
             Status::Memory => 7,
         }
+    }
+}
+
+/// The status of an end.
+pub(crate) fn status_of(end: &Result<Conclusion, Halt>) -> Status
+    ensures { result ≡ run_status end.now }
+{
+    match end {
+        Ok(Conclusion::Done) => Status::Ok,
+        Ok(Conclusion::No) => Status::No,
+        Ok(Conclusion::Spent { .. }) => Status::Spent,
+        Err(Halt::Usage) => Status::Usage,
+        Err(Halt::Refused(_)) => Status::Refused,
+        Err(Halt::Read(_)) => Status::ReadFault,
+        Err(Halt::Write) => Status::WriteFault,
+        Err(Halt::Memory) => Status::Memory,
     }
 }

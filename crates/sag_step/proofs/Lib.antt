@@ -7,7 +7,9 @@ pub mod ShapeTest
 mod RootState
 mod Walks
 mod SomeNext
-mod ListsOfEnds
+pub mod ListsOfEnds
 mod Successors
 mod Touching
 mod Sets
+mod TracksNext
+pub mod CutEnds

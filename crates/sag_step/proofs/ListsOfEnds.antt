@@ -1,36 +1,30 @@
 -- Lists of ends, item by item: what is kept of them, and such lists beside each other.
-use Rattle.std.proofs.Common.{◌≡◌, ℕ, zero, suc, ◌+◌, ◌<◌, ◌≤◌, Bool, true, false, ◌&&◌, cond, List, [], ◌∷◌, ◌++◌, length, take, drop, set, Some, slice_get, refl, ap, sym, ◌∙◌, arith, Less, Equal, Greater}
+use Rattle.std.proofs.Common.{◌≡◌, ℕ, zero, suc, ◌+◌, ◌<◌, ◌≤◌, Bool, true, false, ◌&&◌, cond, List, [], ◌∷◌, ◌++◌, length, take, drop, set, Some, slice_get, refl, ap, sym, ◌∙◌, subst, arith, All, Ordering, Less, Equal, Greater}
 use Rattle.std.specs.Prelude.{nat_lt, nat_eq, ◌==◌, ◌-◌, filter, not, slice_index}
 use Rattle.std.specs.List.{list_all, range_with_len}
 use Rattle.std.specs.Map.{keys_of}
-use Rattle.std.specs.Ordering.{nat_cmp, match_ordering}
+use Rattle.std.specs.Ordering.{nat_cmp, MatchOrdering, match_ordering}
 use Rattle.std.specs.BTreeMap.{insert_entry}
 use Rattle.std.specs.Cmp.Lexicographic.{pointwise}
 use Rattle.std.proofs.lemmas.Bool.{and_parts, and_from, and_left, or_parts, eq-eqb, eqb-false, ltb-true, ltb-false, lt-ltb, le-ltb, ne_eqb, not-true, not-false, false≢true}
 use Rattle.std.proofs.lemmas.List.{append-nil, append_assoc, length-append, drop_all, drop-set-lt, take_more_set}
 use Rattle.std.proofs.lemmas.Option.{slice_get_within}
+use Rattle.std.proofs.lemmas.List.Elements.{All-cons, All-head, All-nil, All-tail}
+use Rattle.std.proofs.lemmas.Cmp.{ranked}
 use Rattle.job_sets.specs.Subset.{Subset, IsSubset, is_member, is_rising}
 use Rattle.job_sets.proofs.Additions.{same_members}
 use Rattle.job_sets.proofs.Members.{list_all-member, is_member-filter, is_member-from_filter, is_member-range}
 use Rattle.job_model.specs.Table.{Table}
 use Rattle.sag_time.specs.Interval.{Interval, covers}
-use Rattle.sag_time.specs.Sorted.{zip_with}
+use Rattle.lists.specs.Zipped.{zip_with}
 use Rattle.start_windows.specs.Ends.{is_above}
 use Rattle.sag_step.specs.State.{is_tracked, tracked_jobs}
 use Rattle.sag_step.specs.Next.{still_tracked}
 use Rattle.sag_step.specs.Widen.{end_hull, end_covers}
-use Rattle.sag_step.proofs.TrackedEnds.{is_rising-filter}
+use Rattle.job_sets.proofs.Filters.{is_rising-filter}
+use Rattle.lists.proofs.Elements.{drop_next}
 
 -- ---- item by item
-
-drop-at : {X : Type 0} (xs : List X) (i : ℕ) (x : X) → slice_get xs i ≡ Some x → drop i xs ≡ x ∷ drop (suc i) xs
-drop-at [] i x here = cc
-drop-at (y ∷ ys) zero x here = let same : y ≡ x = cc in ap (λ z. z ∷ ys) same
-drop-at (y ∷ ys) (suc i) x here = drop-at ys i x here
-
--- what is left from a place on begins with the item there
-pub drop_next : {X : Type 0} (xs : List X) (i : ℕ) (x : X) → slice_get xs i ≡ Some x → drop i xs ≡ x ∷ drop (i + 1) xs
-drop_next xs i x here = let next : suc i ≡ i + 1 = omega arith in drop-at xs i x here ∙ ap (λ n. x ∷ drop n xs) next
 
 pub key_at : (es : List (ℕ × Interval)) (i : ℕ) (e : ℕ × Interval) → slice_get es i ≡ Some e → slice_index (keys_of es) i ≡ e.0
 key_at [] i e here = cc
@@ -117,6 +111,18 @@ insert_entry-after : (e : ℕ × Interval) (es : List (ℕ × Interval)) (j : �
 insert_entry-after e es j v less =
     ap (λ b. match_ordering (cond b Less (cond (j == e.0) Equal Greater)) ((j, v) ∷ e ∷ es) ((e.0, v) ∷ es) (e ∷ insert_entry nat_cmp es j v)) (le-ltb j e.0 (omega (arith, less)))
     ∙ ap (λ c. match_ordering (cond c Equal Greater) ((j, v) ∷ e ∷ es) ((e.0, v) ∷ es) (e ∷ insert_entry nat_cmp es j v)) (ne_eqb j e.0 (λ same. omega (arith, less, same)))
+
+-- the entry in its place, where each entry and the new one has the property
+pub All-insert_entry : (P : ℕ × Interval → Type 0) (es : List (ℕ × Interval)) (k : ℕ) (v : Interval) → All P es → P (k, v) → All P (insert_entry nat_cmp es k v)
+All-insert_entry P [] k v all new = All-cons P (k, v) [] new (All-nil P)
+All-insert_entry P (e ∷ es) k v all new =
+    at (nat_cmp k e.0) (ranked k e.0 (nat_cmp k e.0) refl) (All-head P e es all) (All-tail P e es all) (All-insert_entry P es k v (All-tail P e es all) new)
+  where
+    at : (o : Ordering) → MatchOrdering o (k < e.0) (k ≡ e.0) (e.0 < k) → P e → All P es → All P (insert_entry nat_cmp es k v) →
+        All P (match_ordering o ((k, v) ∷ e ∷ es) ((e.0, v) ∷ es) (e ∷ insert_entry nat_cmp es k v))
+    at Less is first others rest = All-cons P (k, v) (e ∷ es) new (All-cons P e es first others)
+    at Equal is first others rest = All-cons P (e.0, v) es (subst (λ n. P (n, v)) is new) others
+    at Greater is first others rest = All-cons P e (insert_entry nat_cmp es k v) first rest
 
 -- ---- two lists of the same jobs
 
@@ -211,13 +217,13 @@ module _ (table : Table) (set : List ℕ) where
   tracked_next : (j n : ℕ) → j < n → tracked_from j n ≡ cond (is_tracked_member j) (j ∷ tracked_from (j + 1) n) (tracked_from (j + 1) n)
   tracked_next j n below = let more : n - j ≡ suc (n - (j + 1)) = omega (arith, below) in ap (λ k. filter is_tracked_member (range_with_len j k)) more
 
-  no_match : (es : List (ℕ × Interval)) (i j : ℕ) (rest : List ℕ) → (slice_get (keys_of es) i ≡ Some j → ⊥) → pointwise nat_eq (keys_of (drop i es)) (j ∷ rest) ≡ false
+  pub no_match : (es : List (ℕ × Interval)) (i j : ℕ) (rest : List ℕ) → (slice_get (keys_of es) i ≡ Some j → ⊥) → pointwise nat_eq (keys_of (drop i es)) (j ∷ rest) ≡ false
   no_match [] zero j rest missing = refl
   no_match [] (suc i) j rest missing = refl
   no_match (e ∷ es) zero j rest missing = and_left (e.0 == j) (pointwise nat_eq (keys_of es) rest) (ne_eqb e.0 j (λ same. missing (ap Some same)))
   no_match (e ∷ es) (suc i) j rest missing = no_match es i j rest missing
 
-  match : (es : List (ℕ × Interval)) (i j : ℕ) (rest : List ℕ) → slice_get (keys_of es) i ≡ Some j →
+  pub match : (es : List (ℕ × Interval)) (i j : ℕ) (rest : List ℕ) → slice_get (keys_of es) i ≡ Some j →
       (i < length es) × (pointwise nat_eq (keys_of (drop i es)) (j ∷ rest) ≡ pointwise nat_eq (keys_of (drop (suc i) es)) rest)
   match [] i j rest here = cc
   match (e ∷ es) zero j rest here = let same : e.0 ≡ j = cc in (omega arith, ap (λ b. b && pointwise nat_eq (keys_of es) rest) (eq-eqb e.0 j same))
@@ -245,7 +251,7 @@ module _ (table : Table) (set : List ℕ) where
     untracked not_tracked =
         ap (pointwise nat_eq (keys_of (drop i es))) (tracked_next j n below ∙ ap (λ b. cond b (j ∷ tracked_from (j + 1) n) (tracked_from (j + 1) n)) not_tracked)
 
-is_rising-range : (a n : ℕ) → is_rising (range_with_len a n) ≡ true
+pub is_rising-range : (a n : ℕ) → is_rising (range_with_len a n) ≡ true
 is_rising-range a zero = refl
 is_rising-range a (suc n) = and_from (list_all (nat_lt a) (range_with_len (a + 1) n)) (is_rising (range_with_len (a + 1) n)) (above (a + 1) n (omega arith)) (is_rising-range (a + 1) n)
   where

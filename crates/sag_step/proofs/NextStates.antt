@@ -7,10 +7,15 @@ use Rattle.std.specs.Ordering.{nat_cmp, match_ordering}
 use Rattle.std.specs.BTreeMap.{insert_entry}
 use Rattle.std.proofs.lemmas.Bool.{and_parts, and_from, leb-true, le-leb, false≢true, false_from_ne_true}
 use Rattle.std.proofs.lemmas.List.Elements.{All-get_or}
-use Rattle.job_sets.specs.Subset.{is_member, with_number}
-use Rattle.job_sets.proofs.Members.{is_member-from_filter}
-use Rattle.job_model.specs.declared.TheConstants.{MOST_ARRIVAL, MOST_COST}
-use Rattle.job_model.specs.Table.{Table, IsTable, IsJob, job_at, no_job}
+use Rattle.job_sets.specs.Subset.{is_member, is_rising, is_within, with_number}
+use Rattle.job_sets.proofs.Filters.{is_rising-filter}
+use Rattle.sag_time.specs.Sorted.{is_sorted, cap_first}
+use Rattle.sag_time.proofs.CapFirst.{is_sorted-cap_first, pointwise-cap_first, all-cap_first}
+use Rattle.start_windows.specs.Ends.{low_end}
+use Rattle.sag_step.proofs.CutEnds.{keys_of-cut, spans-cut, up_to-cut, is_rising-still_last, still_last-tracked}
+use Rattle.job_sets.proofs.Members.{is_member-from_filter, list_all-member}
+use Rattle.job_model.specs.declared.limits.TheConstants.{MOST_ARRIVAL, MOST_COST}
+use Rattle.job_model.specs.Table.{Table, IsTable, IsJob, job_at, no_job, predecessors}
 use Rattle.sag_time.specs.Interval.{Interval}
 use Rattle.sag_time.proofs.Limits.{up_to, all-after_start, all-weaker}
 use Rattle.sag_time.proofs.SortedLists.{is_sorted-after_start, length-after_start, pointwise-after_start}
@@ -18,7 +23,7 @@ use Rattle.start_windows.specs.declared.StartWindow.{StartWindow}
 use Rattle.sag_step.specs.declared.TheConstants.{MOST_TIME, MOST_STEP_TIME}
 use Rattle.sag_step.specs.State.{SystemState, state_window, first_core, is_tracked, tracked_jobs}
 use Rattle.sag_step.specs.Shape.{IsState, IsUpTo}
-use Rattle.sag_step.specs.Next.{finish_interval, next}
+use Rattle.sag_step.specs.Next.{finish_interval, last_predecessors, cut_ends, still_last, next}
 use Rattle.sag_step.specs.Laws as law
 use Rattle.job_sets.proofs.Additions.{IsSubset-with_number, few_members, length-with_number}
 use Rattle.sag_step.proofs.TrackedEnds.{keys_of-still_tracked}
@@ -85,22 +90,48 @@ module _ (table : Table) (state : SystemState) (j : ℕ) (window : StartWindow) 
     some_low : 0 < length state.low
     some_low = omega (arith, is_state.some_core, is_state.shape.low_count)
 
+    abbrev capped : List ℕ
+    capped = cap_first state.low (last_predecessors table state.last.members j) window.lst state.high
+
+    capped_sorted : is_sorted capped ≡ true
+    capped_sorted =
+        is_sorted-cap_first state.low (last_predecessors table state.last.members j) window.lst state.high is_state.shape.low_sorted is_state.shape.high_sorted is_state.shape.in_order
+
+    cut_tracked : keys_of (cut_ends table j window.lst state.ends) ≡ tracked_jobs table state.set.members
+    cut_tracked = keys_of-cut table j window.lst state.ends ∙ is_state.shape.tracked
+
+    -- a predecessor may have finished by the latest start
+    pub begun : (i : ℕ) → is_member i (predecessors table j) ≡ true → low_end state.ends i ≤ window.lst
+    begun i there = omega (arith, is_window.after_ends i there, is_window.in_order)
+
+    pub ends_rise : is_rising (keys_of state.ends) ≡ true
+    ends_rise = ap is_rising is_state.shape.tracked ∙ is_rising-filter (is_tracked table state.set.members) state.set.members is_state.set.rising
+
+    cut_spans : list_all (λ e. nat_le e.1.lo e.1.hi) (cut_ends table j window.lst state.ends) ≡ true
+    cut_spans = spans-cut table j window.lst state.ends ends_rise begun is_state.shape.spans
+
     pub IsState-next : IsState table m (next table state j window)
     IsState-next = record {
       some_core = is_state.some_core;
       of_table = is_state.of_table;
       set = IsSubset-with_number state.set j (omega (arith, is_window.is_job, is_state.of_table)) is_state.set;
+      last_size = is_state.last_size;
       shape = record {
         low_count = length-after_start window.est finish.lo state.low some_low ∙ is_state.shape.low_count;
         in_order =
-            pointwise-after_start window.est window.est finish.lo finish.hi state.low state.high (omega arith) finish_order
-            is_state.shape.low_sorted is_state.shape.high_sorted is_state.shape.in_order;
+            pointwise-after_start window.est window.est finish.lo finish.hi state.low capped (omega arith) finish_order
+            is_state.shape.low_sorted capped_sorted (pointwise-cap_first state.low (last_predecessors table state.last.members j) window.lst state.high is_state.shape.in_order);
         low_sorted = is_sorted-after_start window.est finish.lo state.low is_state.shape.low_sorted;
-        high_sorted = is_sorted-after_start window.est finish.hi state.high is_state.shape.high_sorted;
-        tracked = keys_of-still_tracked table state.set.members j state.ends finish is_state.set.rising is_state.shape.tracked;
+        high_sorted = is_sorted-after_start window.est finish.hi capped capped_sorted;
+        tracked = keys_of-still_tracked table state.set.members j (cut_ends table j window.lst state.ends) finish is_state.set.rising cut_tracked;
         spans =
-            all-filter (λ (e : ℕ × Interval). nat_le e.1.lo e.1.hi) (λ e. is_tracked table (with_number j state.set.members) e.0) (insert_entry nat_cmp state.ends j finish)
-            (all-insert_entry (λ v. nat_le v.lo v.hi) state.ends j finish is_state.shape.spans (le-leb finish.lo finish.hi finish_order));
+            all-filter (λ (e : ℕ × Interval). nat_le e.1.lo e.1.hi) (λ e. is_tracked table (with_number j state.set.members) e.0) (insert_entry nat_cmp (cut_ends table j window.lst state.ends) j finish)
+            (all-insert_entry (λ v. nat_le v.lo v.hi) (cut_ends table j window.lst state.ends) j finish cut_spans (le-leb finish.lo finish.hi finish_order));
+        last_rises = is_rising-still_last table state.set.members state.ends state.last.members j window.lst is_state.shape.last_rises;
+        last_tracked =
+            ap (is_within (still_last table (with_number j state.set.members) state.ends state.last.members j window.lst))
+            (keys_of-still_tracked table state.set.members j (cut_ends table j window.lst state.ends) finish is_state.set.rising cut_tracked)
+            ∙ still_last-tracked table state.set.members state.ends state.last.members j window.lst is_state.shape.last_tracked is_state.shape.tracked;
       };
     }
 
@@ -122,11 +153,13 @@ module _ (table : Table) (state : SystemState) (j : ℕ) (window : StartWindow) 
         let est : window.est ≤ limit = omega (arith, lst-le, is_window.in_order) in
         record {
           low = all-after_start limit MOST_COST window.est finish.lo state.low est (omega (arith, finish_order, finish-le)) within.low;
-          high = all-after_start limit MOST_COST window.est finish.hi state.high est finish-le within.high;
+          high =
+              all-after_start limit MOST_COST window.est finish.hi (cap_first state.low (last_predecessors table state.last.members j) window.lst state.high) est finish-le
+              (all-cap_first limit state.low (last_predecessors table state.last.members j) window.lst state.high within.low within.high);
           ends =
-              all-filter (ends_up_to (limit + MOST_COST)) (λ e. is_tracked table (with_number j state.set.members) e.0) (insert_entry nat_cmp state.ends j finish)
-              (all-insert_entry (λ v. nat_le v.hi (limit + MOST_COST)) state.ends j finish
-              (ends-weaker limit (limit + MOST_COST) state.ends (omega arith) within.ends) (le-leb finish.hi (limit + MOST_COST) finish-le));
+              all-filter (ends_up_to (limit + MOST_COST)) (λ e. is_tracked table (with_number j state.set.members) e.0) (insert_entry nat_cmp (cut_ends table j window.lst state.ends) j finish)
+              (all-insert_entry (λ v. nat_le v.hi (limit + MOST_COST)) (cut_ends table j window.lst state.ends) j finish
+              (ends-weaker limit (limit + MOST_COST) (cut_ends table j window.lst state.ends) (omega arith) (up_to-cut table j window.lst limit state.ends within.ends)) (le-leb finish.hi (limit + MOST_COST) finish-le));
         }
 
 -- what bounds the sums of a step
@@ -152,6 +185,12 @@ job-unlisted table m state j window is_state eligible =
     ∙ false_from_ne_true (is_member j (tracked_jobs table state.set.members)) (λ there.
     false≢true (sym outside ∙ (is_member-from_filter (is_tracked table state.set.members) state.set.members j there).1))
 
+-- it is none of its own predecessors, which are dispatched
+pub own-predecessor : (table : Table) (state : SystemState) (j : ℕ) (window : StartWindow) → state_window table state j ≡ Some window → is_member j (predecessors table j) ≡ false
+own-predecessor table state j window eligible =
+    let is = IsWindow-from table state.set.members state.ends (first_core state) j window eligible in
+    false_from_ne_true (is_member j (predecessors table j)) (λ there. false≢true (sym is.outside ∙ list_all-member (λ i. is_member i state.set.members) (predecessors table j) j is.waited there))
+
 length-filter-le : (p : ℕ → Bool) (xs : List ℕ) → length (filter p xs) ≤ length xs
 length-filter-le p [] = omega arith
 length-filter-le p (x ∷ xs) =
@@ -175,6 +214,9 @@ next_is_state table m state j window is_table is_state eligible = IsState-next t
 
 pub next_is_up_to : law.NextIsUpTo
 next_is_up_to table state j window limit is_table within arrivals eligible = IsUpTo-next table state j window is_table eligible limit arrivals within
+
+pub finish_is_up_to : law.FinishIsUpTo
+finish_is_up_to table state j window limit is_table within arrivals eligible = finish-le table state j window is_table eligible limit arrivals within
 
 pub next_is_shaped : law.NextIsShaped
 next_is_shaped table m state j window is_table is_state within eligible = record {

@@ -7,7 +7,7 @@ use Rattle.sag_step.specs.State.{SystemState, root}
 use Rattle.sag_step.specs.Shape.{has_shape}
 use Rattle.sag_step.specs.Next.{next}
 use Rattle.sag_step.specs.Widen.{widens}
-use Rattle.sag_step.specs.Group.{offers}
+use Rattle.sag_step.specs.Offers.{offers}
 use Rattle.sag_step.proofs.WorkedLevels.{level}
 
 -- what a state says besides its set

@@ -47,8 +47,8 @@ first-le [] (y ∷ ys) order = absurd (false≢true order)
 first-le (x ∷ xs) [] order = absurd (false≢true order)
 first-le (x ∷ xs) (y ∷ ys) order = leb-true x y (and_parts (nat_le x y) (pointwise nat_le xs ys) order).0
 
-pub some_job_is_eligible : window_law.SomeJobIsEligible → law.SomeJobIsEligible
-some_job_is_eligible by_windows table m state is_table is_state fewer =
+pub some_step_is_left : window_law.SomeJobIsEligible → law.SomeStepIsLeft
+some_step_is_left by_windows table m state is_table is_state fewer =
     let out = missing_from 0 (length table.jobs) state.set.members is_state.set.rising (from_zero state.set.members) (omega (arith, fewer)) in
     by_windows table state.set.members state.ends (first_core state) is_table
     (first-le state.low state.high is_state.shape.in_order) is_state.shape.spans out.0 out.2 out.3

@@ -3,7 +3,7 @@ use Rattle.std.proofs.Common.{◌≡◌, ℕ, ◌+◌, Bool, true, false, ◌&&�
 use Rattle.std.specs.Prelude.{nat_le}
 use Rattle.std.specs.Cmp.Lexicographic.{pointwise}
 use Rattle.sag_time.specs.Interval.{Interval, touches}
-use Rattle.sag_time.specs.Sorted.{zip_with}
+use Rattle.lists.specs.Zipped.{zip_with}
 
 and_swap : (a b p q : Bool) → ((a && b) && (p && q)) ≡ ((a && p) && (b && q))
 and_swap true true p q = refl

@@ -12,6 +12,7 @@ use Rattle.sag_time.specs.Interval.{Interval}
 use Rattle.sag_step.specs.State.{is_tracked, tracked_jobs}
 use Rattle.sag_step.specs.Next.{still_tracked}
 use Rattle.job_sets.proofs.Additions.{is_member-with_number, is_rising-with_number}
+use Rattle.job_sets.proofs.Filters.{list_all-filter, is_rising-filter}
 
 -- ---- numbers of the list of ends
 
@@ -37,26 +38,6 @@ keys_of-filter p (e ∷ es) = at (p e.0) (keys_of-filter p es)
 
 -- ---- what a filter keeps of a rising list and a number in its order
 
-list_all-filter : (q p : ℕ → Bool) (xs : List ℕ) → list_all q xs ≡ true → list_all q (filter p xs) ≡ true
-list_all-filter q p [] all = refl
-list_all-filter q p (x ∷ xs) all =
-    let parts = and_parts (q x) (list_all q xs) all in
-    let rest = list_all-filter q p xs parts.1 in
-    elim (p x) as (λ b. list_all q (cond b (x ∷ filter p xs) (filter p xs)) ≡ true) [
-      | true ↦ and_from (q x) (list_all q (filter p xs)) parts.0 rest
-      | false ↦ rest
-    ]
-
-pub is_rising-filter : (p : ℕ → Bool) (xs : List ℕ) → is_rising xs ≡ true → is_rising (filter p xs) ≡ true
-is_rising-filter p [] rising = refl
-is_rising-filter p (x ∷ xs) rising =
-    let parts = and_parts (list_all (nat_lt x) xs) (is_rising xs) rising in
-    let rest = is_rising-filter p xs parts.1 in
-    elim (p x) as (λ b. is_rising (cond b (x ∷ filter p xs) (filter p xs)) ≡ true) [
-      | true ↦ and_from (list_all (nat_lt x) (filter p xs)) (is_rising (filter p xs)) (list_all-filter (nat_lt x) p xs parts.0) rest
-      | false ↦ rest
-    ]
-
 with_number-first : (j : ℕ) (xs : List ℕ) → list_all (nat_lt j) xs ≡ true → with_number j xs ≡ j ∷ xs
 with_number-first j [] above = refl
 with_number-first j (x ∷ xs) above =
@@ -68,7 +49,7 @@ list_all-above j k (x ∷ xs) less all =
     let parts = and_parts (nat_lt k x) (list_all (nat_lt k) xs) all in
     and_from (nat_lt j x) (list_all (nat_lt j) xs) (lt-ltb j x (omega (arith, less, ltb-true k x parts.0))) (list_all-above j k xs less parts.1)
 
-filter-with_number : (p : ℕ → Bool) (j : ℕ) (xs : List ℕ) → is_rising xs ≡ true → filter p (with_number j xs) ≡ cond (p j) (with_number j (filter p xs)) (filter p xs)
+pub filter-with_number : (p : ℕ → Bool) (j : ℕ) (xs : List ℕ) → is_rising xs ≡ true → filter p (with_number j xs) ≡ cond (p j) (with_number j (filter p xs)) (filter p xs)
 filter-with_number p j [] rising = refl
 filter-with_number p j (k ∷ ks) rising =
     let parts = and_parts (list_all (nat_lt k) ks) (is_rising ks) rising in
@@ -135,16 +116,22 @@ module _ (table : Table) (set : List ℕ) (j : ℕ) where
   tracked_before : (i : ℕ) → is_tracked table (with_number j set) i ≡ true → is_tracked table set i ≡ true
   tracked_before i = list_any-weaker (λ k. not (is_member k (with_number j set))) (λ k. not (is_member k set)) undispatched_before (successors table i)
 
+  -- who is tracked with one job more: the job and who was tracked before, as far as they still are
+  pub tracked_after : is_rising set ≡ true → filter (is_tracked table (with_number j set)) (with_number j (tracked_jobs table set)) ≡ tracked_jobs table (with_number j set)
+  tracked_after rising =
+      let p : ℕ → Bool = is_tracked table (with_number j set) in
+      let q : ℕ → Bool = is_tracked table set in
+      filter-with_number p j (filter q set) (is_rising-filter q set rising)
+      ∙ ap (λ ks. cond (p j) (with_number j ks) ks) (filter-filter p q tracked_before set)
+      ∙ sym (filter-with_number p j set rising)
+
   pub keys_of-still_tracked : (ends : List (ℕ × Interval)) (v : Interval) → is_rising set ≡ true → keys_of ends ≡ tracked_jobs table set →
       keys_of (still_tracked table (with_number j set) (insert_entry nat_cmp ends j v)) ≡ tracked_jobs table (with_number j set)
   keys_of-still_tracked ends v rising tracked =
       let p : ℕ → Bool = is_tracked table (with_number j set) in
-      let q : ℕ → Bool = is_tracked table set in
       keys_of-filter p (insert_entry nat_cmp ends j v)
       ∙ ap (filter p) (keys_of-insert_entry ends j v ∙ ap (with_number j) tracked)
-      ∙ filter-with_number p j (filter q set) (is_rising-filter q set rising)
-      ∙ ap (λ ks. cond (p j) (with_number j ks) ks) (filter-filter p q tracked_before set)
-      ∙ sym (filter-with_number p j set rising)
+      ∙ tracked_after rising
 
 -- the list that a step leaves rises
 pub is_rising-still_tracked : (table : Table) (set : List ℕ) (ends : List (ℕ × Interval)) (j : ℕ) (v : Interval) → is_rising (keys_of ends) ≡ true →

@@ -2,7 +2,7 @@
 use Rattle.std.proofs.Common.{◌≡◌, ℕ, ◌+◌, ◌*◌, ◌<◌, ◌≤◌, length, Option, refl, ap, sym, subst, ◌∙◌, arith}
 use Rattle.std.specs.Prelude.{Some}
 use Rattle.job_sets.specs.Subset.{Subset}
-use Rattle.job_model.specs.declared.TheConstants.{MOST_ARRIVAL, MOST_COST}
+use Rattle.job_model.specs.declared.limits.TheConstants.{MOST_ARRIVAL, MOST_COST}
 use Rattle.job_model.specs.Table.{Table, IsTable}
 use Rattle.sag_time.specs.Interval.{Interval}
 use Rattle.start_windows.specs.declared.StartWindow.{StartWindow}

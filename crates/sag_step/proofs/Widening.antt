@@ -5,9 +5,11 @@ use Rattle.std.specs.List.{list_all}
 use Rattle.std.specs.Map.{keys_of}
 use Rattle.std.specs.Cmp.Lexicographic.{pointwise, as_long, bytes_decides}
 use Rattle.std.proofs.lemmas.Bool.{and_parts, and_from, leb-true, le-leb, eqb-true, eq-eqb}
+use Rattle.job_sets.specs.Subset.{is_member, is_within, common}
+use Rattle.job_sets.proofs.Filters.{is_rising-filter, is_within-itself, is_within-trans, common-left, common-right, common-least}
 use Rattle.job_model.specs.Table.{Table}
 use Rattle.sag_time.specs.Interval.{Interval, hull, covers}
-use Rattle.sag_time.specs.Sorted.{zip_with}
+use Rattle.lists.specs.Zipped.{zip_with}
 use Rattle.sag_time.proofs.IntervalLaws.{covers-itself, covers-trans, covers-hull, covers-hull_left, covers-hull_right}
 use Rattle.sag_time.proofs.ZippedLists.{length-zip_with, is_sorted-zip_min, is_sorted-zip_max}
 use Rattle.sag_step.specs.declared.TheConstants.{MOST_TIME}
@@ -24,20 +26,23 @@ pub record IsWider (a b : SystemState) : Type 0 where
   pub low : pointwise nat_le a.low b.low ≡ true
   pub high : pointwise nat_le b.high a.high ≡ true
   pub ends : pointwise end_covers a.ends b.ends ≡ true
+  pub last : is_within a.last.members b.last.members ≡ true
 
 module _ (a b : SystemState) where
   pub IsWider-from_test : widens a b ≡ true → IsWider a b
   IsWider-from_test h =
-      let three = and_parts (same_set a.set b.set && pointwise nat_le a.low b.low && pointwise nat_le b.high a.high) (pointwise end_covers a.ends b.ends) h in
+      let four = and_parts (same_set a.set b.set && pointwise nat_le a.low b.low && pointwise nat_le b.high a.high && pointwise end_covers a.ends b.ends) (is_within a.last.members b.last.members) h in
+      let three = and_parts (same_set a.set b.set && pointwise nat_le a.low b.low && pointwise nat_le b.high a.high) (pointwise end_covers a.ends b.ends) four.0 in
       let two = and_parts (same_set a.set b.set && pointwise nat_le a.low b.low) (pointwise nat_le b.high a.high) three.0 in
       let one = and_parts (same_set a.set b.set) (pointwise nat_le a.low b.low) two.0 in
-      record { set = one.0; low = one.1; high = two.1; ends = three.1 }
+      record { set = one.0; low = one.1; high = two.1; ends = three.1; last = four.1 }
 
   pub widens-from : IsWider a b → widens a b ≡ true
   widens-from w =
       let one = and_from (same_set a.set b.set) (pointwise nat_le a.low b.low) w.set w.low in
       let two = and_from (same_set a.set b.set && pointwise nat_le a.low b.low) (pointwise nat_le b.high a.high) one w.high in
-      and_from (same_set a.set b.set && pointwise nat_le a.low b.low && pointwise nat_le b.high a.high) (pointwise end_covers a.ends b.ends) two w.ends
+      let three = and_from (same_set a.set b.set && pointwise nat_le a.low b.low && pointwise nat_le b.high a.high) (pointwise end_covers a.ends b.ends) two w.ends in
+      and_from (same_set a.set b.set && pointwise nat_le a.low b.low && pointwise nat_le b.high a.high && pointwise end_covers a.ends b.ends) (is_within a.last.members b.last.members) three w.last
 
 -- ---- an order
 
@@ -68,6 +73,7 @@ widening_is_reflexive a = widens-from a a (record {
   low = pointwise-itself nat_le nat_le-itself a.low;
   high = pointwise-itself nat_le nat_le-itself a.high;
   ends = pointwise-itself end_covers end_covers-itself a.ends;
+  last = is_within-itself a.last.members;
 })
 
 pub widening_is_transitive : law.WideningIsTransitive
@@ -79,6 +85,7 @@ widening_is_transitive a b c wide narrow =
       low = pointwise-trans nat_le nat_le-trans a.low b.low c.low s.low t.low;
       high = pointwise-trans nat_le nat_le-trans c.high b.high a.high t.high s.high;
       ends = pointwise-trans end_covers end_covers-trans a.ends b.ends c.ends s.ends t.ends;
+      last = is_within-trans a.last.members b.last.members c.last.members s.last t.last;
     })
 
 -- ---- hulls
@@ -137,10 +144,10 @@ module _ (a b : SystemState) (comparable : AreComparable a b) (same : same_set a
       ∙ pointwise-zip_right max (λ x y. nat_le y x) (λ x y. le-leb y (max x y) (omega arith)) a.high b.high high_count
 
   hull-left : IsWider (state_hull a b) a
-  hull-left = record { set = nat_eq-itself a.set.members; low = low_left; high = high_left; ends = ends-hull_left a.ends b.ends same_keys }
+  hull-left = record { set = nat_eq-itself a.set.members; low = low_left; high = high_left; ends = ends-hull_left a.ends b.ends same_keys; last = common-left a.last.members b.last.members }
 
   hull-right : IsWider (state_hull a b) b
-  hull-right = record { set = same; low = low_right; high = high_right; ends = ends-hull_right a.ends b.ends same_keys }
+  hull-right = record { set = same; low = low_right; high = high_right; ends = ends-hull_right a.ends b.ends same_keys; last = common-right a.last.members b.last.members }
 
   -- what widens both widens the hull
   hull-least : (c : SystemState) → IsWider c a → IsWider c b → IsWider c (state_hull a b)
@@ -152,10 +159,11 @@ module _ (a b : SystemState) (comparable : AreComparable a b) (same : same_set a
         ∙ pointwise-zip max (λ x y. nat_le y x) (λ z x y h k. le-leb (max x y) z (omega (arith, leb-true x z h, leb-true y z k))) c.high a.high b.high
         (pointwise-back nat_le c.high a.high ∙ left.high) (pointwise-back nat_le c.high b.high ∙ right.high);
     ends = pointwise-zip end_hull end_covers end_covers-hull c.ends a.ends b.ends left.ends right.ends;
+    last = common-least c.last.members a.last.members b.last.members left.last right.last;
   }
 
-pub hull_is_least : law.HullIsLeast
-hull_is_least a b comparable same = (
+pub state_hull_is_least : law.StateHullIsLeast
+state_hull_is_least a b comparable same = (
   widens-from (state_hull a b) a (hull-left a b comparable same),
   widens-from (state_hull a b) b (hull-right a b comparable same),
   λ c left right. widens-from c (state_hull a b) (hull-least a b comparable same c (IsWider-from_test c a left) (IsWider-from_test c b right)),
@@ -192,6 +200,7 @@ module _ (table : Table) (m : ℕ) (a b : SystemState) (one : IsState table m a)
     some_core = one.some_core;
     of_table = one.of_table;
     set = one.set;
+    last_size = one.last_size;
     shape = record {
       low_count = length-zip_with min a.low b.low comparable.one_count ∙ one.shape.low_count;
       in_order = in_order;
@@ -199,6 +208,10 @@ module _ (table : Table) (m : ℕ) (a b : SystemState) (one : IsState table m a)
       high_sorted = is_sorted-zip_max a.high b.high one.shape.high_sorted other.shape.high_sorted;
       tracked = keys_of-zip a.ends b.ends (comparable.same_ends same) ∙ one.shape.tracked;
       spans = in_spans;
+      last_rises = is_rising-filter (λ k. is_member k b.last.members) a.last.members one.shape.last_rises;
+      last_tracked =
+          ap (is_within (common a.last.members b.last.members)) (keys_of-zip a.ends b.ends (comparable.same_ends same))
+          ∙ is_within-trans (common a.last.members b.last.members) a.last.members (keys_of a.ends) (common-left a.last.members b.last.members) one.shape.last_tracked;
     };
   }
 
@@ -212,6 +225,12 @@ IsUpTo-hull limit a b one other =
           list_all-zip end_hull (λ (e : ℕ × Interval). nat_le e.1.hi limit) (λ (e : ℕ × Interval). nat_le e.1.hi limit) (λ (e : ℕ × Interval). nat_le e.1.hi limit)
           (λ e f h k. le-leb (max e.1.hi f.1.hi) limit (omega (arith, leb-true e.1.hi limit h, leb-true f.1.hi limit k))) a.ends b.ends one.ends other.ends;
     }
+
+pub hull_is_state : law.HullIsState
+hull_is_state = IsState-hull
+
+pub hull_is_up_to : law.HullIsUpTo
+hull_is_up_to = IsUpTo-hull
 
 pub hull_is_shaped : law.HullIsShaped
 hull_is_shaped table m a b one other same = record {

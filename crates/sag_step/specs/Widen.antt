@@ -9,9 +9,9 @@
 use Rattle.std.specs.Prelude.{◌≡◌, ℕ, IsTrue, length, Bool, List, ◌&&◌, ◌==◌, min, max, nat_eq, nat_le}
 use Rattle.std.specs.Map.{keys_of}
 use Rattle.std.specs.Cmp.Lexicographic.{pointwise}
-use Rattle.job_sets.specs.Subset.{Subset}
+use Rattle.job_sets.specs.Subset.{Subset, common, is_within}
 use Rattle.sag_time.specs.Interval.{Interval, hull, covers, touches}
-use Rattle.sag_time.specs.Sorted.{zip_with}
+use Rattle.lists.specs.Zipped.{zip_with}
 use Rattle.sag_step.specs.State.{SystemState}
 
 -- the same jobs are dispatched
@@ -37,15 +37,19 @@ state_hull a b = record {
   low = zip_with min a.low b.low;
   high = zip_with max a.high b.high;
   ends = zip_with end_hull a.ends b.ends;
+  last = record { size = a.last.size; members = common a.last.members b.last.members };
 }
 
 -- the same job, and all of the second interval is in the first
 abbrev pub end_covers : ℕ × Interval → ℕ × Interval → Bool
 end_covers e f = (e.0 == f.0) && covers e.1 f.1
 
--- The sets are equal, and each interval of b, of availability or of an end, is in that of a.
+-- The sets are equal, each interval of b, of availability or of an end, is in that of a, and each job that is last on its
+-- core by a is so by b.
 abbrev pub widens : SystemState → SystemState → Bool
-widens a b = same_set a.set b.set && pointwise nat_le a.low b.low && pointwise nat_le b.high a.high && pointwise end_covers a.ends b.ends
+widens a b =
+    same_set a.set b.set && pointwise nat_le a.low b.low && pointwise nat_le b.high a.high && pointwise end_covers a.ends b.ends
+    && is_within a.last.members b.last.members
 
 -- Intervals are in order, there is one number of jobs and of cores, and states of one set track the same jobs.
 pub record AreComparable (a b : SystemState) : Type 0 where

@@ -1,30 +1,24 @@
-// Lists of finish times: what a step keeps of them, and such lists beside each other.
+//! Lists of finish times: what a step keeps of them, and such lists beside each other.
 
-ghost use Rattle.std.specs.Prelude.{◌≡◌, ◌++◌, ◌<◌, ◌↔◌, ◌&&◌, [], ◌∷◌, IfOk, IsTrue, Some, false, if◌then◌else◌, length, nat_eq, nat_lt, not, slice_get};
+ghost use Rattle.std.specs.Prelude.{◌≡◌, ◌++◌, ◌<◌, ◌≤◌, ◌↔◌, ◌&&◌, [], ◌∷◌, All, IfOk, IsTrue, Some, false, filter, if◌then◌else◌, length, map, min, nat_eq, nat_lt, not, slice_get};
 ghost use Rattle.std.specs.BTreeMap.{insert_entry};
 ghost use Rattle.std.specs.Cmp.Lexicographic.{pointwise};
 ghost use Rattle.std.specs.Map.{keys_of};
 ghost use Rattle.std.specs.Ordering.{nat_cmp};
-ghost use Rattle.job_sets.specs.Subset.{IsSubset, is_member};
-ghost use Rattle.sag_time.specs.Sorted.{zip_with};
+ghost use Rattle.job_sets.specs.Subset.{IsSubset, is_member, is_within};
+ghost use Rattle.job_model.specs.Table.{predecessors};
+ghost use Rattle.lists.specs.Zipped.{zip_with};
 ghost use Rattle.start_windows.specs.Ends.{IsEnds, is_above};
-ghost use Rattle.sag_step.specs.Next.{still_tracked};
+ghost use Rattle.sag_step.specs.Next.{cut_ends, ended_by, runs_past, still_last, still_tracked, last_predecessors};
 ghost use Rattle.sag_step.specs.State.{is_tracked, tracked_jobs};
 ghost use Rattle.sag_step.specs.Widen.{end_covers, end_hull};
 
+use crate::tracking::is_tracked;
 use job_model::JobTable;
 use job_sets::{JobNo, JobSet};
 use sag_time::Span;
 use start_windows::Ends;
 use std::alloc::{AllocError, Global};
-
-// Whether some successor of the job is outside the set.
-pub(crate) fn is_tracked(table: &JobTable, set: &JobSet, job: JobNo) -> bool
-    requires { set.now.size ≡ length table.now.jobs }
-    ensures { result ≡ is_tracked table.now set.now.members job }
-{
-    !set.contains_all(table.succs(job))
-}
 
 // Appends the end of the job, if it is tracked.
 fn keep(into: &mut Ends, table: &JobTable, set: &JobSet, job: JobNo, finish: Span)
@@ -108,42 +102,102 @@ pub(crate) fn keep_tracked(
     }
 }
 
-// Whether the job is in the set, and some successor of it is not.
-fn is_tracked_member(table: &JobTable, set: &JobSet, job: JobNo) -> bool
-    requires size { set.now.size ≡ length table.now.jobs }
-    requires job { job < set.now.size }
-    ensures { result ≡ (is_member job set.now.members
-        && is_tracked table.now set.now.members job) }
+// The interval of the job, if it is listed, ends by that moment.
+fn end_by(ends: &mut Ends, job: JobNo, moment: u64)
+    requires begun { All (λ e. e.0 ≡ job → e.1.lo ≤ moment) ends.old.items }
+    ensures { ends.new ≡ record {
+      items = map (ended_by (job ∷ []) moment) ends.old.items;
+      room = ends.old.room;
+    } }
 {
-    set.has(job) && is_tracked(table, set, job)
+    let Some(place) = ends.place_of(job) else {
+        return;
+    };
+    let (_, span) = ends.at(place);
+    ends.set_span(place, Span::new(span.lo(), span.hi().min(moment)).unwrap());
 }
 
-// Whether the item at the place is of that job.
-fn lists_at(ends: &Ends, place: u16, job: JobNo) -> bool
-    ensures { IsTrue result ↔ (slice_get (keys_of ends.now.items) place ≡ Some job) }
+// The predecessors of the job have finished by its latest start.
+pub(crate) fn end_predecessors(ends: &mut Ends, table: &JobTable, job: JobNo, latest: u64)
+    requires begun { All (λ e. IsTrue (is_member e.0 (predecessors table.now job)) → e.1.lo ≤ latest)
+        ends.old.items }
+    ensures { ends.new ≡ record {
+      items = cut_ends table.now job latest ends.old.items;
+      room = ends.old.room;
+    } }
 {
-    place < ends.len() && ends.at(place).0 == job
+    for before in table.preds(job) {
+        end_by(ends, *before, latest);
+    }
 }
 
-// Whether the list has the ends of exactly the tracked jobs of the set.
-pub(crate) fn tracks(ends: &Ends, table: &JobTable, set: &JobSet) -> bool
+// Whether the job stays last on its core: it runs on after that moment, and others wait for it.
+fn stays_last(table: &JobTable, set: &JobSet, latest: u64, job: JobNo, finish: Span) -> bool
     requires { set.now.size ≡ length table.now.jobs }
-    ensures tracked { result ≡ pointwise nat_eq (keys_of ends.now.items)
-        (tracked_jobs table.now set.now.members) }
-    ensures set { IsSubset set.now }
-    ensures ends { IsEnds ends.now }
+    ensures { result ≡ (nat_lt latest finish.lo && is_tracked table.now set.now.members job) }
 {
-    let count = ends.len();
-    let mut place = 0;
-    for job in 0..set.size() {
-        if is_tracked_member(table, set, JobNo(job)) {
-            if !lists_at(ends, place, JobNo(job)) {
-                return false;
-            }
-            place += 1;
+    latest < finish.lo() && is_tracked(table, set, job)
+}
+
+// Removes the jobs that do not stay last on their cores. All are listed.
+fn keep_staying(into: &mut JobSet, ends: &Ends, table: &JobTable, set: &JobSet, latest: u64)
+    requires size { set.now.size ≡ length table.now.jobs }
+    requires sizes { into.old.size ≡ set.now.size }
+    requires jobs { All (λ e. e.0 < set.now.size) ends.now.items }
+    requires listed { IsTrue (is_within into.old.members (keys_of ends.now.items)) }
+    ensures size { into.new.size ≡ into.old.size }
+    ensures members { into.new.members ≡ filter (λ i. runs_past ends.now.items latest i
+        && is_tracked table.now set.now.members i) into.old.members }
+{
+    for place in 0..ends.len() {
+        let (other, finish) = ends.at(place);
+        if into.has(other) && !stays_last(table, set, latest, other, finish) {
+            into.remove(other);
         }
     }
-    place == count
+}
+
+// The jobs that are last on their cores once the job has started.
+pub(crate) fn keep_last(
+    into: &mut JobSet,
+    last: &JobSet,
+    ends: &Ends,
+    table: &JobTable,
+    set: &JobSet,
+    job: JobNo,
+    latest: u64,
+)
+    requires size { set.now.size ≡ length table.now.jobs }
+    requires sizes { into.old.size ≡ set.now.size }
+    requires last { last.now.size ≡ set.now.size }
+    requires jobs { All (λ e. e.0 < set.now.size) ends.now.items }
+    requires listed { IsTrue (is_within last.now.members (keys_of ends.now.items)) }
+    requires job { job < set.now.size }
+    ensures { into.new ≡ record {
+      size = last.now.size;
+      members = still_last table.now set.now.members ends.now.items last.now.members job latest;
+    } }
+{
+    into.copy_from(last);
+    let _size = into.size();
+    keep_staying(into, ends, table, set, latest);
+    if is_tracked(table, set, job) {
+        into.add(job);
+    }
+}
+
+// How many predecessors of the job are last on their cores, up to a number.
+pub(crate) fn count_last(table: &JobTable, last: &JobSet, job: JobNo, most: u16) -> u16
+    requires { last.now.size ≡ length table.now.jobs }
+    ensures { result ≡ min (last_predecessors table.now last.now.members job) most }
+{
+    let mut count: usize = 0;
+    for no in table.preds(job) {
+        if last.has(*no) {
+            count += 1;
+        }
+    }
+    count.min(usize::from(most)) as u16
 }
 
 // An equal list, with room for its own items.

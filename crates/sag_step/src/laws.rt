@@ -1,6 +1,6 @@
-// Laws of states.
+//! Laws of states.
 
-ghost use Rattle.sag_step.specs.Laws.{HullIsLeast, HullIsShaped, NextIsShaped, NextIsState, NextIsUpTo, RootIsShaped, ScratchHasRoom, ShapeIsTested, ShapedAreComparable, SomeJobIsEligible, WideningIsReflexive, WideningIsTransitive};
+ghost use Rattle.sag_step.specs.Laws.{FinishIsUpTo, StateHullIsLeast, HullIsShaped, HullIsState, HullIsUpTo, NextIsShaped, NextIsState, NextIsUpTo, RootIsShaped, ScratchHasRoom, ShapeIsTested, ShapedAreComparable, SomeStepIsLeft, WideningIsReflexive, WideningIsTransitive};
 
 /// The test of the shape passes exactly where the shape is there.
 pub fn shape_is_tested()
@@ -13,8 +13,8 @@ pub fn root_is_shaped()
 {}
 
 /// Where some job is not dispatched, some job may be the next to start.
-pub fn some_job_is_eligible()
-    ensures { SomeJobIsEligible }
+pub fn some_step_is_left()
+    ensures { SomeStepIsLeft }
 {
     start_windows::some_job_is_eligible();
 }
@@ -27,6 +27,11 @@ pub fn next_is_state()
 /// A step adds the greatest cost of a job at most.
 pub fn next_is_up_to()
     ensures { NextIsUpTo }
+{}
+
+/// The job of the step finishes within that limit.
+pub fn finish_is_up_to()
+    ensures { FinishIsUpTo }
 {}
 
 /// From a state whose numbers leave room for a step the next can stand in memory.
@@ -55,8 +60,18 @@ pub fn widening_is_transitive()
 {}
 
 /// The hull of two states of one set is the least state that widens both.
-pub fn hull_is_least()
-    ensures { HullIsLeast }
+pub fn state_hull_is_least()
+    ensures { StateHullIsLeast }
+{}
+
+/// The hull of two states of one set is a state.
+pub fn hull_is_state()
+    ensures { HullIsState }
+{}
+
+/// No number of the hull of two states is above a limit of both.
+pub fn hull_is_up_to()
+    ensures { HullIsUpTo }
 {}
 
 /// The hull of two states of one set that can stand in memory can.

@@ -7,11 +7,12 @@ mod state;
 mod steps;
 #[cfg(test)]
 mod tests;
+mod tracking;
 
 pub use laws::{
-    hull_is_least, hull_is_shaped, next_is_shaped, next_is_state, next_is_up_to, root_is_shaped,
-    scratch_has_room, shape_is_tested, shaped_are_comparable, some_job_is_eligible,
-    widening_is_reflexive, widening_is_transitive,
+    finish_is_up_to, hull_is_shaped, hull_is_state, hull_is_up_to, next_is_shaped, next_is_state,
+    next_is_up_to, root_is_shaped, scratch_has_room, shape_is_tested, shaped_are_comparable,
+    some_step_is_left, state_hull_is_least, widening_is_reflexive, widening_is_transitive,
 };
 pub use state::State;
 use std::marker::Model;

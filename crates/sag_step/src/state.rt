@@ -1,7 +1,8 @@
-// System states.
+//! System states.
 
-ghost use Rattle.std.specs.Prelude.{◌≡◌, ◌+◌, ◌<◌, ◌↔◌, IfOk, IfSome, IsSome, IsTrue, Some, length, nat_le};
+ghost use Rattle.std.specs.Prelude.{◌≡◌, ◌+◌, ◌<◌, ◌↔◌, IfOk, IfSome, IsSome, IsTrue, Some, false, length, nat_le};
 ghost use Rattle.std.specs.Cmp.Lexicographic.{pointwise};
+ghost use Rattle.job_sets.specs.Subset.{is_member, with_number};
 ghost use Rattle.sag_time.specs.Interval.{touches};
 ghost use Rattle.sag_time.specs.Sorted.{is_sorted};
 ghost use Rattle.sag_step.specs.declared.TheConstants.{MOST_STEP_TIME, MOST_TIME};
@@ -11,7 +12,10 @@ ghost use Rattle.sag_step.specs.State.{first_core, root, state_window};
 ghost use Rattle.sag_step.specs.Widen.{AreComparable, core_intervals, same_set, state_hull, states_touch, widens};
 
 use crate::Steps;
-use crate::ends::{copy_ends, cover_ends, keep_tracked, tracks, widen_ends};
+use crate::ends::{
+    copy_ends, count_last, cover_ends, end_predecessors, keep_last, keep_tracked, widen_ends,
+};
+use crate::tracking::{lists_all, tracks, tracks_child};
 use job_model::JobTable;
 use job_sets::{JobNo, JobSet};
 use sag_time::{Avail, Span};
@@ -21,24 +25,29 @@ use std::marker::Model;
 use std::sync::ledger::Ledger;
 
 /// What is known once some jobs have started: which they are, from when on cores are possibly and
-/// certainly free, and when those jobs finish that others still wait for.
+/// certainly free, when those jobs finish that others still wait for, and which of them are surely
+/// the last on their cores.
 #[derive(Drop)]
 pub struct State {
     set: JobSet,
     low: Avail,
     high: Avail,
     ends: Ends,
+    last: JobSet,
 }
 
 impl Model for State {
+    ghost use Rattle.std.specs.Prelude.{◌≡◌};
     ghost use Rattle.sag_step.specs.State.{HeldState};
 
     ghost Value = { HeldState };
 
     ghost view = { λ s. record {
-      state = record { set = s.set; low = s.low; high = s.high; ends = s.ends.items };
+      state = record { set = s.set; low = s.low; high = s.high; ends = s.ends.items; last = s.last };
       room = s.ends.room;
     } };
+
+    ghost invariant = { λ s. s.last.size ≡ s.set.size };
 }
 
 // Whether no number of `low` is above that of `high` at its place by more than one.
@@ -63,6 +72,7 @@ impl State {
             low: Avail::zeros(alloc, cores)?,
             high: Avail::zeros(alloc, cores)?,
             ends: Ends::with_room(alloc, room)?,
+            last: JobSet::empty(alloc, table.len())?,
         })
     }
 
@@ -89,22 +99,25 @@ impl State {
         low: Avail,
         high: Avail,
         ends: Ends,
+        last: JobSet,
     ) -> Option<State>
         requires of_table { set.size ≡ length table.now.jobs }
+        requires last_of_table { last.size ≡ length table.now.jobs }
         requires in_limit { IsUpTo MOST_TIME
-            (record { set = set; low = low; high = high; ends = ends.items }) }
+            (record { set = set; low = low; high = high; ends = ends.items; last = last }) }
         ensures parts { IfSome result (λ s. s ≡ record {
-          state = record { set = set; low = low; high = high; ends = ends.items };
+          state = record { set = set; low = low; high = high; ends = ends.items; last = last };
           room = ends.room;
         }) }
         ensures shaped { IsSome result ↔ Shaped table.now cores
-            (record { set = set; low = low; high = high; ends = ends.items }) }
+            (record { set = set; low = low; high = high; ends = ends.items; last = last }) }
     {
         let state = State {
             set,
             low,
             high,
             ends,
+            last,
         };
         if !state.is_state(table, cores) {
             return None;
@@ -120,7 +133,29 @@ impl State {
         if !self.has_cores(cores) {
             return false;
         }
-        self.low.below(&self.high) && tracks(&self.ends, table, &self.set)
+        if !self.low.below(&self.high) {
+            return false;
+        }
+        tracks(&self.ends, table, &self.set) && lists_all(&self.ends, &self.last)
+    }
+
+    /// Whether it is a state of the table on so many cores, where its set is that of the parent, which
+    /// is one, with the job.
+    pub fn is_child(&self, parent: &State, table: &JobTable, cores: u16, job: JobNo) -> bool
+        requires of_table { self.now.state.set.size ≡ length table.now.jobs }
+        requires parent { IsState table.now cores parent.now.state }
+        requires set { self.now.state.set.members ≡ with_number job parent.now.state.set.members }
+        requires new { is_member job parent.now.state.set.members ≡ false }
+        ensures { IsTrue result ↔ IsState table.now cores self.now.state }
+    {
+        if !self.has_cores(cores) {
+            return false;
+        }
+        if !self.low.below(&self.high) {
+            return false;
+        }
+        tracks_child(&self.ends, &parent.ends, table, &self.set, &parent.set, job)
+            && lists_all(&self.ends, &self.last)
     }
 
     // Whether it has so many cores, and one at least.
@@ -145,6 +180,7 @@ impl State {
             low: self.low.copy(alloc)?,
             high: self.high.copy(alloc)?,
             ends: copy_ends(alloc, &self.ends)?,
+            last: self.last.copy(alloc)?,
         })
     }
 
@@ -185,6 +221,14 @@ impl State {
         &self.ends
     }
 
+    /// Those of these jobs that are surely the last on their cores.
+    pub fn last(&self) -> &JobSet
+        ensures last { result.now ≡ self.now.state.last }
+        ensures size { result.now.size ≡ self.now.state.set.size }
+    {
+        &self.last
+    }
+
     /// How many ends it can hold without memory.
     pub fn room(&self) -> u16
         ensures { result ≡ self.now.room }
@@ -217,9 +261,21 @@ impl State {
         into.low.copy_from(&self.low);
         into.low.replace_first(window.est, earliest);
         into.high.copy_from(&self.high);
+        let free = count_last(table, &self.last, job, self.high.len());
+        into.high.cap_first(&self.low, free, window.lst);
         into.high.replace_first(window.est, latest);
         let finish = Span::new(earliest, latest).unwrap();
         keep_tracked(&mut into.ends, &self.ends, table, &into.set, job, finish);
+        end_predecessors(&mut into.ends, table, job, window.lst);
+        keep_last(
+            &mut into.last,
+            &self.last,
+            &self.ends,
+            table,
+            &into.set,
+            job,
+            window.lst,
+        );
         steps.count();
     }
 
@@ -257,6 +313,7 @@ impl State {
             && self.low.below(&other.low)
             && other.high.below(&self.high)
             && cover_ends(&self.ends, &other.ends)
+            && self.last.within(&other.last)
     }
 
     /// It becomes the least state that covers both.
@@ -269,5 +326,6 @@ impl State {
         self.low.lower_to(&other.low);
         self.high.raise_to(&other.high);
         widen_ends(&mut self.ends, &other.ends);
+        self.last.keep_common(&other.last);
     }
 }

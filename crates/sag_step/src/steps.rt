@@ -1,4 +1,4 @@
-// A count of steps.
+//! A count of steps.
 
 ghost use Rattle.std.specs.Prelude.{◌≡◌, ◌+◌, ◌<◌};
 

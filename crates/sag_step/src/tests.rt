@@ -1,11 +1,14 @@
+//! Worked states: their shape, steps, and merging.
+
 ghost use Rattle.std.specs.Prelude.{◌≡◌, ◌<◌, ◌≤◌, IfOk, IfSome, IsTrue, length, nat_le};
 ghost use Rattle.std.specs.List.{list_all};
 ghost use Rattle.sag_step.specs.Shape.{Shaped};
 ghost use Rattle.sag_step.specs.declared.TheConstants.{MOST_TIME};
 
 use crate::{
-    MOST_TIME, State, StateNo, Steps, hull_is_least, hull_is_shaped, next_is_shaped, next_is_state,
-    next_is_up_to, root_is_shaped, scratch_has_room, shaped_are_comparable, some_job_is_eligible,
+    MOST_TIME, State, StateNo, Steps, finish_is_up_to, hull_is_shaped, hull_is_state,
+    hull_is_up_to, next_is_shaped, next_is_state, next_is_up_to, root_is_shaped, scratch_has_room,
+    shape_is_tested, shaped_are_comparable, some_step_is_left, state_hull_is_least,
     widening_is_reflexive, widening_is_transitive,
 };
 use job_model::{Job, JobTable};
@@ -75,7 +78,13 @@ fn walk<L: Ledger>(
             return Ok(None);
         };
         let mut next = State::scratch(alloc, table, cores)?;
+        if state.set().has(no) {
+            return Ok(None);
+        }
         state.step_into(table, no, found, &mut next, &mut steps);
+        if !next.is_child(&state, table, cores, no) {
+            return Ok(None);
+        }
         state = next;
     }
     Ok(Some(state))
@@ -89,6 +98,49 @@ fn end_of(alloc: Global, table: &JobTable, path: &[JobNo]) -> Option<State>
     walk::<Brand>(alloc, table, 2, path, Blank::new(1)).ok()?
 }
 
+// Whether the state has these availabilities of two cores, this end of the first job, and so many jobs
+// that are last on their cores.
+fn shows(state: &State, low: [u64; 2], high: [u64; 2], end: Option<Span>, last: u16) -> bool {
+    state.low().as_slice() == low.as_slice()
+        && state.high().as_slice() == high.as_slice()
+        && state.ends().get(JobNo(0)) == end
+        && state.last().count() == last
+}
+
+// Whether the path leads to such a state.
+fn leads_to(
+    alloc: Global,
+    table: &JobTable,
+    path: &[JobNo],
+    low: [u64; 2],
+    high: [u64; 2],
+    end: Option<Span>,
+    last: u16,
+) -> bool
+    requires { length path.now ≤ 3 }
+{
+    let Some(state) = end_of(alloc, table, path) else {
+        return false;
+    };
+    shows(&state, low, high, end, last)
+}
+
+// How many jobs of how many have started, how many ends there are, and for how many there is room,
+// once the first job has started; and the last two of a copy.
+fn counts(alloc: Global, table: &JobTable) -> Option<([u16; 4], [u16; 2])> {
+    let state = end_of(alloc, table, &[JobNo(0)])?;
+    let copy = state.copy(alloc).ok()?;
+    Some((
+        [
+            state.set().count(),
+            state.set().size(),
+            state.ends().len(),
+            state.room(),
+        ],
+        [copy.ends().len(), copy.room()],
+    ))
+}
+
 #[test]
 fn a_step_takes_the_first_core(rt: HostRuntime) {
     let alloc = rt.alloc();
@@ -96,41 +148,51 @@ fn a_step_takes_the_first_core(rt: HostRuntime) {
         panic!(rt; "the rows keep the rules");
     };
     assert!(rt; end_of(alloc, &table, &[JobNo(2)]).is_none());
-    let Some(state) = end_of(alloc, &table, &[JobNo(0)]) else {
-        panic!(rt; "the first job is eligible");
-    };
-    assert_eq!(rt; state.low().as_slice(), [0, 2].as_slice());
-    assert_eq!(rt; state.high().as_slice(), [0, 4].as_slice());
-    assert_eq!(rt; (state.set().count(), state.set().size()), (1, 3));
-    assert_eq!(rt; (state.ends().len(), state.room()), (1, 3));
-    assert_eq!(rt; state.ends().get(JobNo(0)), Span::new(2, 4));
-    let Ok(copy) = state.copy(alloc) else {
-        panic!(rt; "there is memory");
-    };
-    assert_eq!(rt; (copy.ends().len(), copy.room()), (1, 1));
-    some_job_is_eligible();
+    assert!(rt;
+        leads_to(
+            alloc,
+            &table,
+            &[JobNo(0)],
+            [0, 2],
+            [0, 4],
+            Span::new(2, 4),
+            1
+        )
+    );
+    assert_eq!(rt; counts(alloc, &table), Some(([1, 3, 1, 3], [1, 1])));
+    some_step_is_left();
     next_is_shaped();
     next_is_state();
     next_is_up_to();
+    finish_is_up_to();
     assert!(rt; StateNo(1) < StateNo(2));
+}
+
+// Three jobs of which the first is released from 0 to 5.
+fn jitter(alloc: Global) -> Option<JobTable> {
+    let mut rows = [job(1, 10, 10), job(2, 3, 3), job(3, 4, 4)];
+    rows[0].rmax = 5;
+    JobTable::from_rows(alloc, rows.to_vec(alloc).ok()?).ok()
 }
 
 #[test]
 fn a_step_of_a_job_with_jitter_starts_at_once(rt: HostRuntime) {
     let alloc = rt.alloc();
-    let mut rows = [job(1, 10, 10), job(2, 3, 3), job(3, 4, 4)];
-    rows[0].rmax = 5;
-    let Ok(list) = rows.to_vec(alloc) else {
-        panic!(rt; "there is memory");
-    };
-    let Ok(table) = JobTable::from_rows(alloc, list) else {
+    let Some(table) = jitter(alloc) else {
         panic!(rt; "the rows keep the rules");
     };
-    let Some(state) = end_of(alloc, &table, &[JobNo(0)]) else {
-        panic!(rt; "the first job is eligible");
+    assert!(rt; leads_to(alloc, &table, &[JobNo(0)], [0, 10], [0, 10], None, 0));
+}
+
+#[test]
+fn one_core_is_free_for_each_last_predecessor(rt: HostRuntime) {
+    let alloc = rt.alloc();
+    let rows = [job(1, 3, 3), job(2, 3, 7), job(3, 1, 1)];
+    let Some(table) = waiting(alloc, &rows, JobNo(2)) else {
+        panic!(rt; "the rows keep the rules");
     };
-    assert_eq!(rt; state.low().as_slice(), [0, 10].as_slice());
-    assert_eq!(rt; state.high().as_slice(), [0, 10].as_slice());
+    let all = [JobNo(0), JobNo(1), JobNo(2)];
+    assert!(rt; leads_to(alloc, &table, &all, [3, 4], [4, 7], None, 0));
 }
 
 // Whether these times may stand in a state.
@@ -177,40 +239,71 @@ fn avail(alloc: Global, times: &[u64]) -> Option<Avail>
     Avail::from_list(times.to_vec(alloc).ok()?)
 }
 
-// The state of these parts, in which the first of the jobs have started, if it is one on so many cores.
+// The state of these parts, in which the first of the jobs have started and the first of these are the last on their
+// cores, if it is one on so many cores.
 fn parts(
     alloc: Global,
     table: &JobTable,
     cores: u16,
-    started: u16,
+    counts: (u16, u16),
     low: &[u64],
     high: &[u64],
     end: Option<(JobNo, Span)>,
 ) -> Option<State>
     ensures { IfSome result (λ s. Shaped table.now cores s.state) }
 {
+    let (started, last) = counts;
     let set = set_of(alloc, table.len(), started).ok()?;
+    let last = set_of(alloc, table.len(), last).ok()?;
     let ends = ends_of(alloc, end)?;
     let low = avail(alloc, low)?;
     let high = avail(alloc, high)?;
-    State::from_parts(table, cores, set, low, high, ends)
+    State::from_parts(table, cores, set, low, high, ends, last)
+}
+
+// Whether these parts are a state, where the first of these jobs finishes from 2 to 4.
+fn are_state(
+    alloc: Global,
+    table: &JobTable,
+    cores: u16,
+    counts: (u16, u16),
+    low: &[u64],
+    high: &[u64],
+    listed: &[u16],
+) -> bool {
+    let Some(span) = Span::new(2, 4) else {
+        return false;
+    };
+    let end = match listed.first() {
+        Some(no) => Some((JobNo(*no), span)),
+        None => None,
+    };
+    parts(alloc, table, cores, counts, low, high, end).is_some()
 }
 
 #[test]
 fn parts_have_the_shape_of_a_state(rt: HostRuntime) {
     let alloc = rt.alloc();
-    let (Some(table), Some(span)) = (table(alloc), Span::new(2, 4)) else {
+    let Some(table) = table(alloc) else {
         panic!(rt; "the rows keep the rules");
     };
-    let first = JobNo(0);
-    let second = JobNo(1);
-    assert!(rt; parts(alloc, &table, 2, 1, &[0, 2], &[0, 4], Some((first, span))).is_some());
-    assert!(rt; parts(alloc, &table, 0, 1, &[], &[], Some((first, span))).is_none());
-    assert!(rt; parts(alloc, &table, 1, 1, &[0, 2], &[0, 4], Some((first, span))).is_none());
-    assert!(rt; parts(alloc, &table, 2, 1, &[0, 2], &[4], Some((first, span))).is_none());
-    assert!(rt; parts(alloc, &table, 2, 1, &[0, 5], &[0, 4], Some((first, span))).is_none());
-    assert!(rt; parts(alloc, &table, 2, 1, &[0, 2], &[0, 4], None).is_none());
-    assert!(rt; parts(alloc, &table, 2, 1, &[0, 2], &[0, 4], Some((second, span))).is_none());
+    let cases: [(u16, (u16, u16), &[u64], &[u64], &[u16], bool); 9] = [
+        (2, (1, 1), &[0, 2], &[0, 4], &[0], true),
+        (2, (1, 0), &[0, 2], &[0, 4], &[0], true),
+        (0, (1, 1), &[], &[], &[0], false),
+        (1, (1, 1), &[0, 2], &[0, 4], &[0], false),
+        (2, (1, 1), &[0, 2], &[4], &[0], false),
+        (2, (1, 1), &[0, 5], &[0, 4], &[0], false),
+        (2, (1, 2), &[0, 2], &[0, 4], &[0], false),
+        (2, (1, 0), &[0, 2], &[0, 4], &[], false),
+        (2, (1, 1), &[0, 2], &[0, 4], &[1], false),
+    ];
+    for (cores, jobs, low, high, listed, expected) in cases {
+        assert_eq!(rt;
+            are_state(alloc, &table, cores, jobs, low, high, listed),
+            expected
+        );
+    }
 }
 
 // Whether they touch, and whether the first covers the second. Where they touch, the first absorbs the second.
@@ -245,68 +338,58 @@ fn on_one_core(
         alloc,
         table,
         1,
-        started,
+        (started, 1),
         &[low],
         &[high],
         Some((JobNo(0), end)),
     )
 }
 
+// As `beside`, of a state and that of these parts.
+fn beside_parts(
+    alloc: Global,
+    table: &JobTable,
+    one: &mut State,
+    started: u16,
+    interval: (u64, u64),
+    latest: u64,
+) -> Option<(bool, bool)>
+    requires { Shaped table.now 1 one.old.state }
+    ensures { Shaped table.now 1 one.new.state }
+{
+    let other = on_one_core(alloc, table, started, interval, latest)?;
+    Some(beside(table, 1, one, &other))
+}
+
 #[test]
 fn states_are_compared_and_merged(rt: HostRuntime) {
     let alloc = rt.alloc();
-    let Some(owned) = table(alloc) else {
+    let Some(table) = table(alloc) else {
         panic!(rt; "the rows keep the rules");
     };
-    let table = &owned;
-    let Some(mut one) = on_one_core(alloc, table, 1, (6, 6), 4) else {
+    let Some(mut one) = on_one_core(alloc, &table, 1, (6, 6), 4) else {
         panic!(rt; "it is a state");
     };
-    for (started, interval, latest, touches, covers) in [
-        (2, (6, 6), 4, false, false),
-        (1, (8, 9), 4, false, false),
-        (1, (7, 7), 5, true, false),
-        (1, (7, 7), 5, true, true),
-        (1, (8, 9), 4, true, false),
-        (1, (8, 9), 6, true, false),
+    for (started, interval, latest, expected) in [
+        (2, (6, 6), 4, (false, false)),
+        (1, (8, 9), 4, (false, false)),
+        (1, (7, 7), 5, (true, false)),
+        (1, (7, 7), 5, (true, true)),
+        (1, (8, 9), 4, (true, false)),
+        (1, (8, 9), 6, (true, false)),
     ] {
-        let Some(other) = on_one_core(alloc, table, started, interval, latest) else {
-            panic!(rt; "it is a state");
-        };
-        assert_eq!(rt; beside(table, 1, &mut one, &other), (touches, covers));
+        assert_eq!(rt;
+            beside_parts(alloc, &table, &mut one, started, interval, latest),
+            Some(expected)
+        );
     }
-    assert_eq!(rt;
-        (one.low().len(), one.high().len(), one.ends().len()),
-        (1, 1, 1)
-    );
     assert_eq!(rt; one.ends().get(JobNo(0)), Span::new(2, 6));
-    hull_is_least();
+    state_hull_is_least();
+    hull_is_state();
+    hull_is_up_to();
+    shape_is_tested();
     widening_is_reflexive();
     widening_is_transitive();
-}
-
-// Whether the path leads to these availabilities of two cores and this end of the first job.
-fn leads_to(
-    alloc: Global,
-    table: &JobTable,
-    path: &[JobNo],
-    low: [u64; 2],
-    high: [u64; 2],
-    end: Option<Span>,
-) -> bool
-    requires { length path.now ≤ 3 }
-{
-    let Some(state) = end_of(alloc, table, path) else {
-        return false;
-    };
-    shows(&state, low, high, end)
-}
-
-// Whether the state has these availabilities of two cores and this end of the first job.
-fn shows(state: &State, low: [u64; 2], high: [u64; 2], end: Option<Span>) -> bool {
-    state.low().as_slice() == low.as_slice()
-        && state.high().as_slice() == high.as_slice()
-        && state.ends().get(JobNo(0)) == end
 }
 
 // Three jobs of which the second waits for the first, which may be released after the third has started.
@@ -329,6 +412,24 @@ fn merged(alloc: Global, table: &JobTable, one: &[JobNo], other: &[JobNo]) -> Op
     Some(state)
 }
 
+// Whether that state has these availabilities of two cores and this end of the first job.
+fn merges_to(
+    alloc: Global,
+    table: &JobTable,
+    one: &[JobNo],
+    other: &[JobNo],
+    high: [u64; 2],
+    end: Option<Span>,
+) -> bool
+    requires one { length one.now ≤ 3 }
+    requires other { length other.now ≤ 3 }
+{
+    let Some(state) = merged(alloc, table, one, other) else {
+        return false;
+    };
+    shows(&state, [1, 2], high, end, 1)
+}
+
 #[test]
 fn ends_are_kept_and_widened_until_nobody_waits(rt: HostRuntime) {
     let alloc = rt.alloc();
@@ -338,12 +439,9 @@ fn ends_are_kept_and_widened_until_nobody_waits(rt: HostRuntime) {
     let sooner = [JobNo(0), JobNo(2)];
     let later = [JobNo(2), JobNo(0)];
     let all = [JobNo(0), JobNo(2), JobNo(1)];
-    assert!(rt; leads_to(alloc, &table, &sooner, [1, 2], [1, 4], Span::new(2, 4)));
-    assert!(rt; leads_to(alloc, &table, &later, [1, 2], [1, 5], Span::new(2, 5)));
-    assert!(rt; leads_to(alloc, &table, &all, [2, 3], [4, 5], None));
-    assert!(rt; merged(alloc, &table, &later, &sooner).is_none());
-    let Some(state) = merged(alloc, &table, &sooner, &later) else {
-        panic!(rt; "they touch");
-    };
-    assert!(rt; shows(&state, [1, 2], [1, 5], Span::new(2, 5)));
+    assert!(rt; leads_to(alloc, &table, &sooner, [1, 2], [1, 4], Span::new(2, 4), 1));
+    assert!(rt; leads_to(alloc, &table, &later, [1, 2], [1, 5], Span::new(2, 5), 1));
+    assert!(rt; leads_to(alloc, &table, &all, [2, 3], [4, 5], None, 0));
+    assert!(rt; !merges_to(alloc, &table, &later, &sooner, [1, 5], Span::new(2, 5)));
+    assert!(rt; merges_to(alloc, &table, &sooner, &later, [1, 5], Span::new(2, 5)));
 }

@@ -1,18 +1,20 @@
 -- The texts that go to the error stream.
---   line            a line of these pieces
---   file_word       the word for a file
---   refusal         why a file is refused
---   row_refusal     why one of its rows is refused
---   field_refusal   why a field of a row is refused
---   repeat_refusal  a row is refused, since an earlier one has the same IDs
---   no_memory       want of memory
---   csv_text        why a file is no table of numbers
---   table_text      why the rows of the job file are no job table
---   edge_text       why the rows of the precedence file are no edges of a job table
---   side_text       why a file beside the job file is refused
---   fault_text      the text of a fault
---   has_text        every fault has a text, but a job without a row, which is told by its IDs
---   HasText         the same as a fact
+--   line              a line of these pieces
+--   file_word         the word for a file
+--   refusal           why a file is refused
+--   row_refusal       why one of its rows is refused
+--   field_refusal     why a field of a row is refused
+--   repeat_refusal    a row is refused, since an earlier one has the same IDs
+--   no_memory         want of memory
+--   usage_text        how the program is called
+--   spent_text        where the budget ended the work
+--   csv_fault_text    why a file is no table of numbers
+--   table_fault_text  why the rows of the job file are no job table
+--   edge_fault_text   why the rows of the precedence file are no edges of a job table
+--   side_fault_text   why a file beside the job file is refused
+--   fault_text        the text of a fault
+--   has_text          every fault has a text, but a job without a row, which is told by its IDs
+--   HasText           the same as a fact
 use Rattle.std.specs.Prelude.{ℕ, ◌++◌, Bool, IsTrue, List, [], ◌∷◌, codes, false, true}
 use Rattle.std.specs.Fmt.{decimal}
 use Rattle.std.specs.List.{concat}
@@ -24,6 +26,7 @@ use Rattle.job_model.specs.declared.fault.EdgeFault.{EdgeFault}
 use Rattle.job_model.specs.declared.fault.EdgeFault.TheVariants as edge
 use Rattle.side_csv.specs.declared.fault.SideFault.{SideFault}
 use Rattle.side_csv.specs.declared.fault.SideFault.TheVariants as side
+use Rattle.sag_texts.specs.declared.usage.TheConstants.{USAGE}
 use Rattle.sag_texts.specs.declared.fault.FileKind.{FileKind}
 use Rattle.sag_texts.specs.declared.fault.FileKind.TheVariants.{Jobs, Scenario, Precedence}
 use Rattle.sag_texts.specs.declared.fault.Fault.{Fault}
@@ -59,47 +62,56 @@ repeat_refusal file row earlier = row_refusal file row (codes " repeats row " �
 unfoldable pub no_memory : List ℕ
 no_memory = line (codes "no memory" ∷ [])
 
+-- how the program is called
+unfoldable pub usage_text : List ℕ
+usage_text = USAGE.now
+
+-- the budget ended the work at this level, with so many states and edges
+unfoldable pub spent_text : ℕ → ℕ → ℕ → List ℕ
+spent_text level states edges =
+    line (codes "spent level " ∷ decimal level ∷ codes " states " ∷ decimal states ∷ codes " edges " ∷ decimal edges ∷ [])
+
 -- why a file is no table of numbers
-unfoldable pub csv_text : FileKind → CsvFault → List ℕ
-csv_text file csv.NoHeading = refusal file (codes " no heading" ∷ [])
-csv_text file (csv.Width row fields) = row_refusal file row (codes " has " ∷ decimal fields ∷ codes " fields" ∷ [])
-csv_text file (csv.NotNumber row column) = field_refusal file row column (codes " is no number")
-csv_text file (csv.TooBig row column) = field_refusal file row column (codes " is above 18446744073709551615")
-csv_text file csv.Memory = no_memory
+unfoldable pub csv_fault_text : FileKind → CsvFault → List ℕ
+csv_fault_text file csv.NoHeading = refusal file (codes " no heading" ∷ [])
+csv_fault_text file (csv.Width row fields) = row_refusal file row (codes " has " ∷ decimal fields ∷ codes " fields" ∷ [])
+csv_fault_text file (csv.NotNumber row column) = field_refusal file row column (codes " is no number")
+csv_fault_text file (csv.TooBig row column) = field_refusal file row column (codes " is above 18446744073709551615")
+csv_fault_text file csv.Memory = no_memory
 
 -- why the rows of the job file are no job table
-unfoldable pub table_text : TableFault → List ℕ
-table_text table.TooMany = refusal Jobs (codes " too many rows" ∷ [])
-table_text (table.OverLimit row column) = field_refusal Jobs row column (codes " is above the limit")
-table_text (table.SpanReversed row column) = field_refusal Jobs row column (codes " is above the next")
-table_text (table.ZeroCost row) = row_refusal Jobs row (codes " column 5 is 0" ∷ [])
-table_text (table.Twice row earlier) = repeat_refusal Jobs row earlier
-table_text table.Memory = no_memory
+unfoldable pub table_fault_text : TableFault → List ℕ
+table_fault_text table.TooMany = refusal Jobs (codes " too many rows" ∷ [])
+table_fault_text (table.OverLimit row column) = field_refusal Jobs row column (codes " is above the limit")
+table_fault_text (table.SpanReversed row column) = field_refusal Jobs row column (codes " is above the next")
+table_fault_text (table.ZeroCost row) = row_refusal Jobs row (codes " column 5 is 0" ∷ [])
+table_fault_text (table.Twice row earlier) = repeat_refusal Jobs row earlier
+table_fault_text table.Memory = no_memory
 
 -- why the rows of the precedence file are no edges of a job table
-unfoldable pub edge_text : EdgeFault → List ℕ
-edge_text edge.TooManyEdges = refusal Precedence (codes " too many rows" ∷ [])
-edge_text (edge.SelfEdge row) = row_refusal Precedence row (codes " names one job twice" ∷ [])
-edge_text (edge.Cycle row) = row_refusal Precedence row (codes " closes a cycle" ∷ [])
-edge_text edge.Memory = no_memory
+unfoldable pub edge_fault_text : EdgeFault → List ℕ
+edge_fault_text edge.TooManyEdges = refusal Precedence (codes " too many rows" ∷ [])
+edge_fault_text (edge.SelfEdge row) = row_refusal Precedence row (codes " names one job twice" ∷ [])
+edge_fault_text (edge.Cycle row) = row_refusal Precedence row (codes " closes a cycle" ∷ [])
+edge_fault_text edge.Memory = no_memory
 
 -- why a file beside the job file is refused
-unfoldable pub side_text : FileKind → SideFault → List ℕ
-side_text file (side.Csv fault) = csv_text file fault
-side_text file (side.Unknown row column) = field_refusal file row column (codes " names no job")
-side_text file (side.Missing job) = []
-side_text file (side.Twice row earlier) = repeat_refusal file row earlier
-side_text file (side.Outside row column) = field_refusal file row column (codes " is outside")
-side_text file side.Memory = no_memory
+unfoldable pub side_fault_text : FileKind → SideFault → List ℕ
+side_fault_text file (side.Csv fault) = csv_fault_text file fault
+side_fault_text file (side.Unknown row column) = field_refusal file row column (codes " names no job")
+side_fault_text file (side.Missing job) = []
+side_fault_text file (side.Twice row earlier) = repeat_refusal file row earlier
+side_fault_text file (side.Outside row column) = field_refusal file row column (codes " is outside")
+side_fault_text file side.Memory = no_memory
 
 -- the text of a fault
 unfoldable pub fault_text : Fault → List ℕ
-fault_text fault.Usage = line (codes "usage: sag replay JOBS SCENARIO [--prec FILE] [--cores N]" ∷ [])
+fault_text fault.Usage = usage_text
 fault_text (fault.TooLong file) = refusal file (codes " file too long" ∷ [])
-fault_text (fault.Csv file why) = csv_text file why
-fault_text (fault.Table why) = table_text why
-fault_text (fault.Edge why) = edge_text why
-fault_text (fault.Side file why) = side_text file why
+fault_text (fault.Csv file why) = csv_fault_text file why
+fault_text (fault.Table why) = table_fault_text why
+fault_text (fault.Edge why) = edge_fault_text why
+fault_text (fault.Side file why) = side_fault_text file why
 fault_text (fault.NoRow file task job) = refusal file (codes " has no row for job " ∷ decimal task ∷ codes " " ∷ decimal job ∷ [])
 fault_text (fault.CannotRead file) = line (codes "cannot read " ∷ file_word file ∷ [])
 fault_text fault.CannotWrite = line (codes "cannot write" ∷ [])

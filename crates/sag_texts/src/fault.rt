@@ -1,4 +1,4 @@
-// What a call of `sag` can be refused for.
+//! What a call of `sag` can be refused for.
 
 use csv_numbers::CsvFault;
 use job_model::{EdgeFault, TableFault};

@@ -1,141 +1,14 @@
 //! The texts that go to the error stream.
 #![tactic(auto)]
 
-ghost use Rattle.sag_edge.specs.Writing.{Puts};
-ghost use Rattle.sag_texts.specs.FaultTexts.{HasText, csv_text, edge_text, fault_text, no_memory, side_text, table_text};
-
 mod fault;
+mod fault_lines;
 mod piece;
 mod refusal;
 #[cfg(test)]
 mod tests;
+mod usage;
 
-use csv_numbers::CsvFault;
 pub use fault::{Fault, FileKind};
-use job_model::{EdgeFault, TableFault};
-use piece::Piece::{File, Number, Words};
-use piece::write_line;
-use refusal::{refuse, refuse_field, refuse_repeat, refuse_row};
-use sag_edge::{Failed, Sink};
-use side_csv::SideFault;
-
-#[tactic(auto, unfolding(crate::specs::FaultTexts::no_memory))]
-fn write_no_memory<S: Sink>(sink: &mut S) -> Result<(), Failed>
-    ensures { Puts (S.seen sink.old) (S.seen sink.new) no_memory result }
-{
-    write_line(sink, &[Words("no memory")])
-}
-
-#[tactic(auto, unfolding(crate::specs::FaultTexts::csv_text))]
-fn write_csv_fault<S: Sink>(sink: &mut S, file: FileKind, why: &CsvFault) -> Result<(), Failed>
-    ensures { Puts (S.seen sink.old) (S.seen sink.new) (csv_text file why.now) result }
-{
-    match why {
-        CsvFault::NoHeading => refuse(sink, file, &[Words(" no heading")]),
-        CsvFault::Width(row, fields) => {
-            let why = [Words(" has "), Number(*fields), Words(" fields")];
-            refuse_row(sink, file, *row, &why)
-        }
-        CsvFault::NotNumber(row, column) => {
-            refuse_field(sink, file, *row, *column, " is no number")
-        }
-        CsvFault::TooBig(row, column) => {
-            refuse_field(sink, file, *row, *column, " is above 18446744073709551615")
-        }
-        CsvFault::Memory => write_no_memory(sink),
-    }
-}
-
-#[tactic(auto, unfolding(crate::specs::FaultTexts::table_text))]
-fn write_table_fault<S: Sink>(sink: &mut S, why: &TableFault) -> Result<(), Failed>
-    ensures { Puts (S.seen sink.old) (S.seen sink.new) (table_text why.now) result }
-{
-    let file = FileKind::Jobs;
-    match why {
-        TableFault::TooMany => refuse(sink, file, &[Words(" too many rows")]),
-        TableFault::OverLimit(row, column) => {
-            refuse_field(sink, file, u64::from(*row), *column, " is above the limit")
-        }
-        TableFault::SpanReversed(row, column) => {
-            refuse_field(sink, file, u64::from(*row), *column, " is above the next")
-        }
-        TableFault::ZeroCost(row) => {
-            refuse_row(sink, file, u64::from(*row), &[Words(" column 5 is 0")])
-        }
-        TableFault::Twice(row, earlier) => {
-            refuse_repeat(sink, file, u64::from(*row), u64::from(*earlier))
-        }
-        TableFault::Memory => write_no_memory(sink),
-    }
-}
-
-#[tactic(auto, unfolding(crate::specs::FaultTexts::edge_text))]
-fn write_edge_fault<S: Sink>(sink: &mut S, why: &EdgeFault) -> Result<(), Failed>
-    ensures { Puts (S.seen sink.old) (S.seen sink.new) (edge_text why.now) result }
-{
-    let file = FileKind::Precedence;
-    match why {
-        EdgeFault::TooManyEdges => refuse(sink, file, &[Words(" too many rows")]),
-        EdgeFault::SelfEdge(row) => {
-            refuse_row(
-                sink,
-                file,
-                u64::from(*row),
-                &[Words(" names one job twice")],
-            )
-        }
-        EdgeFault::Cycle(row) => {
-            refuse_row(sink, file, u64::from(*row), &[Words(" closes a cycle")])
-        }
-        EdgeFault::Memory => write_no_memory(sink),
-    }
-}
-
-#[tactic(auto, unfolding(crate::specs::FaultTexts::side_text))]
-fn write_side_fault<S: Sink>(sink: &mut S, file: FileKind, why: &SideFault) -> Result<(), Failed>
-    requires { HasText (Fault.Side file why.now) }
-    ensures { Puts (S.seen sink.old) (S.seen sink.new) (side_text file why.now) result }
-{
-    match why {
-        SideFault::Csv(why) => write_csv_fault(sink, file, why),
-        SideFault::Unknown(row, column) => {
-            refuse_field(sink, file, *row, *column, " names no job")
-        }
-        SideFault::Missing(_) => unreachable!(),
-        SideFault::Twice(row, earlier) => refuse_repeat(sink, file, *row, *earlier),
-        SideFault::Outside(row, column) => refuse_field(sink, file, *row, *column, " is outside"),
-        SideFault::Memory => write_no_memory(sink),
-    }
-}
-
-/// Writes the line of a fault. It takes no memory.
-///
-/// A `SideFault::Missing` has the number of a job, which no text names: give `Fault::NoRow` with the job's IDs.
-#[tactic(auto, unfolding(crate::specs::FaultTexts::fault_text))]
-pub fn write_fault<S: Sink>(sink: &mut S, fault: &Fault) -> Result<(), Failed>
-    requires { HasText fault.now }
-    ensures { Puts (S.seen sink.old) (S.seen sink.new) (fault_text fault.now) result }
-{
-    match fault {
-        Fault::Usage => write_line(
-            sink,
-            &[Words("usage: sag replay JOBS SCENARIO [--prec FILE] [--cores N]")],
-        ),
-        Fault::TooLong(file) => refuse(sink, *file, &[Words(" file too long")]),
-        Fault::Csv(file, why) => write_csv_fault(sink, *file, why),
-        Fault::Table(why) => write_table_fault(sink, why),
-        Fault::Edge(why) => write_edge_fault(sink, why),
-        Fault::Side(file, why) => write_side_fault(sink, *file, why),
-        Fault::NoRow(file, task, job) => {
-            let (task, job) = (Number(*task), Number(*job));
-            refuse(
-                sink,
-                *file,
-                &[Words(" has no row for job "), task, Words(" "), job],
-            )
-        }
-        Fault::CannotRead(file) => write_line(sink, &[Words("cannot read "), File(*file)]),
-        Fault::CannotWrite => write_line(sink, &[Words("cannot write")]),
-        Fault::NoMemory => write_no_memory(sink),
-    }
-}
+pub use fault_lines::{write_fault, write_spent};
+pub use usage::USAGE;

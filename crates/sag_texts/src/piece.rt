@@ -1,4 +1,4 @@
-// Texts that are written piece by piece, so that they take no memory.
+//! Texts that are written piece by piece, so that they take no memory.
 
 ghost use Rattle.std.specs.Prelude.{◌≡◌};
 ghost use Rattle.std.specs.List.{concat};
@@ -31,6 +31,7 @@ impl FileKind {
     }
 }
 
+// Writes a piece.
 fn write_piece<S: Sink>(sink: &mut S, piece: Piece) -> Result<(), Failed>
     ensures { Puts (S.seen sink.old) (S.seen sink.new) (piece_text piece) result }
 {
@@ -41,6 +42,7 @@ fn write_piece<S: Sink>(sink: &mut S, piece: Piece) -> Result<(), Failed>
     }
 }
 
+/// Writes pieces one after another.
 pub(crate) fn write_pieces<S: Sink>(sink: &mut S, pieces: &[Piece]) -> Result<(), Failed>
     ensures { Puts (S.seen sink.old) (S.seen sink.new) (concat (piece_texts pieces.now)) result }
 {
@@ -50,6 +52,7 @@ pub(crate) fn write_pieces<S: Sink>(sink: &mut S, pieces: &[Piece]) -> Result<()
     Ok(())
 }
 
+/// Writes pieces as a line.
 pub(crate) fn write_line<S: Sink>(sink: &mut S, pieces: &[Piece]) -> Result<(), Failed>
     ensures { Puts (S.seen sink.old) (S.seen sink.new) (line (piece_texts pieces.now)) result }
 {

@@ -1,4 +1,4 @@
-// Lines that refuse a file, a row or a field.
+//! Lines that refuse a file, a row or a field.
 
 ghost use Rattle.sag_edge.specs.Writing.{Puts};
 ghost use Rattle.sag_texts.specs.FaultTexts.{field_refusal, refusal, repeat_refusal, row_refusal};
@@ -9,6 +9,7 @@ use crate::piece::Piece::{self, File, Number, Words};
 use crate::piece::{write_line, write_pieces};
 use sag_edge::{Failed, Sink};
 
+/// Refuses a file.
 pub(crate) fn refuse<S: Sink>(sink: &mut S, file: FileKind, why: &[Piece]) -> Result<(), Failed>
     ensures { Puts (S.seen sink.old) (S.seen sink.new) (refusal file (piece_texts why.now)) result }
 {
@@ -16,6 +17,7 @@ pub(crate) fn refuse<S: Sink>(sink: &mut S, file: FileKind, why: &[Piece]) -> Re
     write_line(sink, why)
 }
 
+/// Refuses a row of a file.
 pub(crate) fn refuse_row<S: Sink>(
     sink: &mut S,
     file: FileKind,
@@ -31,6 +33,7 @@ pub(crate) fn refuse_row<S: Sink>(
     write_line(sink, why)
 }
 
+/// Refuses a field of a row.
 #[tactic(auto, unfolding(crate::specs::FaultTexts::field_refusal))]
 pub(crate) fn refuse_field<S: Sink>(
     sink: &mut S,
@@ -50,6 +53,7 @@ pub(crate) fn refuse_field<S: Sink>(
     )
 }
 
+/// Refuses a row for the IDs of an earlier one.
 #[tactic(auto, unfolding(crate::specs::FaultTexts::repeat_refusal))]
 pub(crate) fn refuse_repeat<S: Sink>(
     sink: &mut S,

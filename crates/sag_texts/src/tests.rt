@@ -1,7 +1,7 @@
 ghost use Rattle.sag_texts.specs.FaultTexts.{HasText};
 
 use crate::FileKind::{Jobs, Precedence, Scenario};
-use crate::{Fault, write_fault};
+use crate::{Fault, USAGE, write_fault, write_spent};
 use csv_numbers::CsvFault;
 use job_model::{EdgeFault, TableFault};
 use sag_edge::MemSink;
@@ -24,8 +24,7 @@ fn is_told(rt: &impl Abort, alloc: Global, line: &str, fault: Fault) -> Result<(
 #[test]
 fn tells_faults(rt: HostRuntime) -> Result<(), Fail> {
     let a = rt.alloc();
-    let usage = "usage: sag replay JOBS SCENARIO [--prec FILE] [--cores N]";
-    is_told(&rt, a, usage, Fault::Usage)?;
+    is_told(&rt, a, USAGE.trim_end(), Fault::Usage)?;
     let too_long = "refused jobs file too long";
     is_told(&rt, a, too_long, Fault::TooLong(Jobs))?;
     let no_row = "refused scenario has no row for job 1 18446744073709551615";
@@ -119,5 +118,14 @@ fn stops_at_a_fault(rt: HostRuntime) -> Result<(), Fail> {
     let mut sink = MemSink::new(rt.alloc(), 100, 3, failing)?;
     assert!(rt; write_fault(&mut sink, &Fault::CannotWrite).is_err());
     assert_eq!(rt; sink.bytes(), b"can".as_slice());
+    Ok(())
+}
+
+#[test]
+fn tells_what_was_spent(rt: HostRuntime) -> Result<(), Fail> {
+    let mut sink = MemSink::new(rt.alloc(), 100, 100, Vec::new(rt.alloc()))?;
+    assert_eq!(rt; write_spent(&mut sink, 3, 465, u64::MAX), Ok(()));
+    let line = b"spent level 3 states 465 edges 18446744073709551615\n";
+    assert_eq!(rt; sink.bytes(), line.as_slice());
     Ok(())
 }

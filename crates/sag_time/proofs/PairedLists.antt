@@ -3,7 +3,7 @@ use Rattle.std.proofs.Common.{◌≡◌, Bool, true, List, [], ◌∷◌, ◌&&�
 use Rattle.std.specs.List.{list_all}
 use Rattle.std.specs.Cmp.Lexicographic.{pointwise}
 use Rattle.std.proofs.lemmas.Bool.{and_parts, and_from, false≢true}
-use Rattle.sag_time.specs.Sorted.{zip_with}
+use Rattle.lists.specs.Zipped.{zip_with}
 
 pub pointwise-itself : {X : Type 0} (p : X → X → Bool) → ((x : X) → p x x ≡ true) → (xs : List X) → pointwise p xs xs ≡ true
 pointwise-itself p own [] = refl

@@ -5,7 +5,8 @@ use Rattle.std.specs.List.{list_all, zip}
 use Rattle.std.specs.Cmp.Lexicographic.{pointwise}
 use Rattle.std.proofs.lemmas.Bool.{and_parts, and_from, leb-true, le-leb}
 use Rattle.std.proofs.lemmas.List.{get_or_default}
-use Rattle.sag_time.specs.Sorted.{is_sorted, zip_with}
+use Rattle.sag_time.specs.Sorted.{is_sorted}
+use Rattle.lists.specs.Zipped.{zip_with}
 
 pub length-zip_with : (f : ℕ → ℕ → ℕ) (xs ys : List ℕ) → length xs ≡ length ys → length (zip_with f xs ys) ≡ length xs
 length-zip_with f [] ys long = refl

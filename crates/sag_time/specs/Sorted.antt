@@ -2,8 +2,8 @@
 --     is_sorted xs               no number is greater than a later one
 --     sorted_with x xs           the sorted list xs, and x in its order
 --     after_start floor end xs   from when the cores are free after a job took the first of them until end
---     zip_with f xs ys           what f makes of the two numbers at each place
-use Rattle.std.specs.Prelude.{ℕ, Bool, true, List, [], ◌∷◌, ◌&&◌, max, nat_le, drop, map, if◌then◌else◌}
+--     cap_first low n cap xs     the list once n cores are free by cap: its first n numbers are no greater
+use Rattle.std.specs.Prelude.{ℕ, zero, suc, Bool, true, List, [], ◌∷◌, ◌&&◌, max, min, nat_le, drop, map, if◌then◌else◌}
 use Rattle.std.specs.List.{list_all}
 
 -- no number is greater than a later one
@@ -20,8 +20,9 @@ sorted_with x (y ∷ ys) = if nat_le x y then x ∷ y ∷ ys else y ∷ sorted_w
 abbrev pub after_start : ℕ → ℕ → List ℕ → List ℕ
 after_start floor end xs = sorted_with end (map (max floor) (drop 1 xs))
 
--- what f makes of what the two lists have at each place, up to the end of the shorter
-abbrev pub zip_with : {A B C : Type 0} → (A → B → C) → List A → List B → List C
-zip_with f [] ys = []
-zip_with f (x ∷ xs) [] = []
-zip_with f (x ∷ xs) (y ∷ ys) = f x y ∷ zip_with f xs ys
+-- Each of the first n numbers becomes the greater of its fellow in low and the smaller of itself and cap.
+abbrev pub cap_first : List ℕ → ℕ → ℕ → List ℕ → List ℕ
+cap_first low n cap [] = []
+cap_first [] n cap (x ∷ xs) = x ∷ xs
+cap_first (l ∷ low) zero cap (x ∷ xs) = x ∷ xs
+cap_first (l ∷ low) (suc n) cap (x ∷ xs) = max l (min x cap) ∷ cap_first low n cap xs

@@ -1,8 +1,9 @@
-// Sorted lists of times.
+//! Sorted lists of times.
 
 ghost use Rattle.std.specs.Cmp.Lexicographic.{pointwise};
 ghost use Rattle.std.specs.Prelude.{◌≡◌, ◌<◌, ◌^◌, ◌↔◌, ◌≤◌, IfOk, IfSome, IsSome, IsTrue, length, max, min, nat_le, replicate, slice_index};
-ghost use Rattle.sag_time.specs.Sorted.{after_start, is_sorted, zip_with};
+ghost use Rattle.sag_time.specs.Sorted.{after_start, cap_first, is_sorted};
+ghost use Rattle.lists.specs.Zipped.{zip_with};
 
 use std::alloc::{AllocError, Global};
 use std::marker::Model;
@@ -38,6 +39,18 @@ fn start_first(times: &mut [u64], floor: u64, end: u64)
     }
     let last = times.len() - 1;
     times[last] = carry;
+}
+
+// Each of the first `count` numbers becomes the greater of its fellow in `low` and the smaller of
+// itself and `cap`.
+fn cap_times(times: &mut [u64], low: &[u64], count: u16, cap: u64)
+    requires lengths { length times.old ≡ length low.now }
+    requires count { count ≤ length times.old }
+    ensures { times.new ≡ cap_first low.now count cap times.old }
+{
+    for i in 0..usize::from(count) {
+        times[i] = low[i].max(times[i].min(cap));
+    }
 }
 
 impl Avail {
@@ -110,6 +123,17 @@ impl Avail {
         ensures { self.new ≡ after_start floor end self.old }
     {
         start_first(&mut self.times, floor, end);
+    }
+
+    /// So many cores are free by `cap`: each of the first `count` numbers becomes the greater of its
+    /// fellow in `low` and the smaller of itself and `cap`.
+    pub fn cap_first(&mut self, low: &Avail, count: u16, cap: u64)
+        requires lengths { length self.old ≡ length low.now }
+        requires count { count ≤ length self.old }
+        requires order { IsTrue (pointwise nat_le low.now self.old) }
+        ensures { self.new ≡ cap_first low.now count cap self.old }
+    {
+        cap_times(&mut self.times, &low.times, count, cap);
     }
 
     /// Each place takes the smaller of its number and that of `other`.

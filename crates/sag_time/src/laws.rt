@@ -1,6 +1,6 @@
-// Laws of spans and of sorted lists of times.
+//! Laws of spans and of sorted lists of times.
 
-ghost use Rattle.sag_time.specs.Laws.{CoversHoldsAll, CoversIsOrder, HullIsLeast, StartKeepsOrder, StartKeepsBelow, TouchLeavesNoGap};
+ghost use Rattle.sag_time.specs.Laws.{CapKeepsOrder, CapLowers, CoversHoldsAll, CoversIsOrder, HullIsLeast, StartKeepsOrder, StartKeepsBelow, TouchLeavesNoGap};
 
 /// Two spans touch exactly where their hull has no number outside both.
 pub fn touch_leaves_no_gap()
@@ -31,4 +31,14 @@ pub fn start_keeps_order()
 /// if the floor and the end are in order too.
 pub fn start_keeps_below()
     ensures { StartKeepsBelow }
+{}
+
+/// A cap leaves a list sorted, as long, and not below the list of lows.
+pub fn cap_keeps_order()
+    ensures { CapKeepsOrder }
+{}
+
+/// No number grows by a cap.
+pub fn cap_lowers()
+    ensures { CapLowers }
 {}

@@ -1,4 +1,4 @@
-// Spans of time.
+//! Spans of time.
 
 ghost use Rattle.std.specs.Prelude.{◌≡◌, ◌<◌, ◌↔◌, ◌≤◌, IfSome, IsNone};
 ghost use Rattle.sag_time.specs.Interval.{covers, holds, hull, touches};

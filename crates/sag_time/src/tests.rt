@@ -1,8 +1,10 @@
+//! Worked spans and lists.
+
 ghost use Rattle.std.specs.Prelude.{◌≡◌, ◌<◌, ◌^◌, IfSome, length};
 
 use crate::{
-    Avail, Span, covers_holds_all, covers_is_order, hull_is_least, start_keeps_below,
-    start_keeps_order, touch_leaves_no_gap,
+    Avail, Span, cap_keeps_order, cap_lowers, start_keeps_below, start_keeps_order,
+    touch_leaves_no_gap,
 };
 use std::alloc::Global;
 
@@ -80,6 +82,19 @@ fn a_start_takes_the_first_core(rt: HostRuntime) {
     }
     start_keeps_order();
     start_keeps_below();
+}
+
+#[test]
+fn cores_are_free_by_a_cap(rt: HostRuntime) {
+    let alloc = rt.alloc();
+    let (Some(low), Some(mut list)) = (avail(alloc, &[2, 2]), avail(alloc, &[6, 10])) else {
+        panic!(rt; "the lists are sorted");
+    };
+    assert!(rt; low.below(&list));
+    list.cap_first(&low, 2, 4);
+    assert_eq!(rt; list.as_slice(), [4, 4].as_slice());
+    cap_keeps_order();
+    cap_lowers();
 }
 
 #[test]

@@ -1,4 +1,4 @@
-pub mod AppLemmas
-pub mod OneCommand
-pub mod WordLemmas
-mod Examples
+mod AppLemmas
+mod OneCommand
+mod WordLemmas
+mod WorkedReplay

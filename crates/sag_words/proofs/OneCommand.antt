@@ -1,12 +1,13 @@
 -- Words ask for at most one command.
 use Rattle.std.proofs.Common.{◌≡◌, ◌∙◌, ℕ, List, [], ◌∷◌, Option, Some, None, refl, sym}
 use Rattle.clap.specs.Words.{Text}
-use Rattle.sag_words.specs.Apps.{replay_app, value_at}
+use Rattle.sag_words.specs.Apps.{Values, value_at}
+use Rattle.sag_words.specs.Replay.{replay_app}
 use Rattle.sag_words.specs.Laws.{OneCommand}
 use Rattle.sag_words.specs.Numbers.{GivesCores}
-use Rattle.sag_words.specs.Words.{Asks, Gives, Values}
-use Rattle.sag_words.specs.declared.Command.{Command}
-use Rattle.sag_words.specs.declared.Command.TheVariants.{Replay}
+use Rattle.sag_words.specs.Words.{Asks, HasValues}
+use Rattle.sag_words.specs.declared.command.Command.{Command}
+use Rattle.sag_words.specs.declared.command.Command.TheVariants.{Replay}
 
 -- a text gives one number of cores
 same_cores : (text : Option Text) (one other : ℕ) → GivesCores text one → GivesCores text other → one ≡ other
@@ -18,7 +19,7 @@ same_value : (value : Option Text) (one other : Text) → value ≡ Some one →
 same_value value one other g h = cc
 
 same_replay : (given : Values) (jobs scenario : Text) (prec : Option Text) (cores : ℕ) (jobs' scenario' : Text) (prec' : Option Text) (cores' : ℕ)
-    → Gives given (Replay jobs scenario prec cores) → Gives given (Replay jobs' scenario' prec' cores') → Replay jobs scenario prec cores ≡ Replay jobs' scenario' prec' cores'
+    → HasValues given (Replay jobs scenario prec cores) → HasValues given (Replay jobs' scenario' prec' cores') → Replay jobs scenario prec cores ≡ Replay jobs' scenario' prec' cores'
 same_replay given jobs scenario prec cores jobs' scenario' prec' cores' g h =
     let jobs_are = same_value _ jobs jobs' g.0 h.0 in
     let scenario_is = same_value _ scenario scenario' g.1 h.1 in

@@ -3,10 +3,11 @@ use Rattle.std.proofs.Common.{Bor, ◌≡◌, ◌∙◌, ℕ, List, Option, ap, 
 use Rattle.clap.proofs.WalkLemmas.{first_value-rows}
 use Rattle.clap.specs.Words.{App, Text, first_of, first_value, matches_of, rows_of}
 use Rattle.clap.specs.declared.parser.matches.Found.{Found}
-use Rattle.sag_words.specs.Apps.{Takes, replay_app, value_at}
-use Rattle.sag_words.specs.Words.{Asks, Gives}
-use Rattle.sag_words.specs.declared.Command.{Command}
-use Rattle.sag_words.specs.declared.Command.TheVariants.{Replay}
+use Rattle.sag_words.specs.Apps.{IsInGrammar, value_at}
+use Rattle.sag_words.specs.Replay.{replay_app}
+use Rattle.sag_words.specs.Words.{Asks, HasValues}
+use Rattle.sag_words.specs.declared.command.Command.{Command}
+use Rattle.sag_words.specs.declared.command.Command.TheVariants.{Replay}
 
 -- what a getter reads is the value of the argument
 pub value_read : (app : App) (words : List Text) (found : Found) (id : Text) (read : Option (Bor Text))
@@ -16,7 +17,7 @@ value_read app words found id read gets rows = gets ∙ first_value-rows found i
 
 -- words that give no `replay` ask for nothing under that name
 pub replay_refused : (rest : List Text)
-    → ((jobs scenario : Text) (prec : Option Text) (cores : ℕ) → Takes replay_app rest → Gives (value_at replay_app rest) (Replay jobs scenario prec cores) → ⊥)
+    → ((jobs scenario : Text) (prec : Option Text) (cores : ℕ) → IsInGrammar replay_app rest → HasValues (value_at replay_app rest) (Replay jobs scenario prec cores) → ⊥)
     → (command : Command) → Asks (codes "replay") rest command → ⊥
 unfolding Asks
 replay_refused rest none (Replay jobs scenario prec cores) asks = none jobs scenario prec cores asks.1 asks.2

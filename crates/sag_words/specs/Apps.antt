@@ -3,10 +3,10 @@
 --   named          an argument that may be given, by its name
 --   argument_rule  the rule of an argument
 --   app_with       the command of that name with these arguments
---   Takes          the words are in the command's grammar
+--   IsInGrammar    the words are in the command's grammar
 --   value_at       the value that they give an argument
---   replay_app     the grammar of `replay`
-use Rattle.std.specs.Prelude.{◌≡◌, List, [], ◌∷◌, Option, Some, codes, true}
+--   Values         a value for each argument that is given
+use Rattle.std.specs.Prelude.{◌≡◌, List, [], Option, Some, true}
 use Rattle.clap.specs.Simple.{new_shape}
 use Rattle.clap.specs.Words.{App, Rule, Text, fault_of, first_of, matches_of, new_rule}
 use Rattle.sag_words.specs.declared.parse.Argument.{Argument}
@@ -37,13 +37,13 @@ app_with name arguments = record {
 }
 
 -- the words are in the command's grammar
-unfoldable pub Takes : App → List Text → Type 0
-Takes app words = fault_of app words ≡ []
+unfoldable pub IsInGrammar : App → List Text → Type 0
+IsInGrammar app words = fault_of app words ≡ []
 
 -- the value of the argument of that name, in words that the command takes
 unfoldable pub value_at : App → List Text → Text → Option Text
 value_at app words id = first_of id (matches_of app words)
 
--- replay JOBS SCENARIO [--prec FILE] [--cores N]
-abbrev pub replay_app : App
-replay_app = app_with (codes "replay") (place (codes "JOBS") ∷ place (codes "SCENARIO") ∷ named (codes "prec") ∷ named (codes "cores") ∷ [])
+-- a value for each argument that is given, by its name
+abbrev pub Values : Type 0
+Values = Text → Option Text

@@ -3,7 +3,7 @@
 use Rattle.std.specs.Prelude.{◌≡◌, List}
 use Rattle.clap.specs.Words.{Text}
 use Rattle.sag_words.specs.Words.{WordsOf}
-use Rattle.sag_words.specs.declared.Command.{Command}
+use Rattle.sag_words.specs.declared.command.Command.{Command}
 
 -- words ask for at most one command
 abbrev pub OneCommand : Type 0

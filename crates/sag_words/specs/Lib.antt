@@ -1,4 +1,5 @@
 pub mod Apps
 pub mod Numbers
+pub mod Replay
 pub mod Words
 pub mod Laws

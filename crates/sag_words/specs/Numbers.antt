@@ -3,7 +3,7 @@
 use Rattle.std.specs.Prelude.{◌≡◌, ◌≤◌, ℕ, Option, None, Some}
 use Rattle.clap.specs.Words.{Text}
 use Rattle.csv_numbers.specs.Fields.{Spells}
-use Rattle.job_model.specs.declared.TheConstants.{MOST_CORES}
+use Rattle.job_model.specs.declared.limits.TheConstants.{MOST_CORES}
 
 -- the text spells a number from 1 to the most cores, as a field of a CSV file does; without a text there is one core
 abbrev pub GivesCores : Option Text → ℕ → Type 0

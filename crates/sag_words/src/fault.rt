@@ -1,4 +1,4 @@
-// Why the words of a command line are refused.
+//! Why the words of a command line are refused.
 
 ghost use Rattle.std.specs.Prelude.{◌≡◌};
 ghost use Rattle.sag_words.specs.declared.fault.WordFault.TheVariants as fault;

@@ -1,4 +1,4 @@
-// Laws of words.
+//! Laws of words.
 
 ghost use Rattle.sag_words.specs.Laws.{OneCommand};
 

@@ -1,4 +1,4 @@
-// The numbers of options.
+//! The numbers of options.
 
 ghost use Rattle.std.specs.Prelude.{ℕ, MatchOption, option_map};
 ghost use Rattle.sag_words.specs.Numbers.{GivesCores};

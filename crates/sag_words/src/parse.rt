@@ -1,8 +1,8 @@
-// Reading the words of one command with `clap`.
+//! Reading the words of one command with `clap`.
 
 ghost use Rattle.std.specs.Prelude.{◌≡◌, false, true, IfErr, IfOk, map, string_bytes};
 ghost use Rattle.clap.specs.Words.{found_of, is_simple_and_free, matches_of, rows_of, rule_of};
-ghost use Rattle.sag_words.specs.Apps.{Takes, app_with, argument_rule};
+ghost use Rattle.sag_words.specs.Apps.{IsInGrammar, app_with, argument_rule};
 
 use crate::WordFault;
 use clap::error::ErrorKind;
@@ -37,13 +37,13 @@ pub(crate) fn matched<'a>(
     words: &'a [String],
 ) -> Result<ArgMatches<'a>, WordFault>
     requires { is_simple_and_free (app_with name.now (map argument_rule arguments.now)) ≡ true }
-    ensures takes { IfOk result (λ _. Takes (app_with name.entry.now (map argument_rule arguments.entry.now))
+    ensures takes { IfOk result (λ _. IsInGrammar (app_with name.entry.now (map argument_rule arguments.entry.now))
         (map string_bytes words.entry.now)) }
     ensures reads { IfOk result (λ matches. rows_of (found_of matches)
         ≡ matches_of (app_with name.entry.now (map argument_rule arguments.entry.now))
         (map string_bytes words.entry.now)) }
     ensures usage { IfErr result (λ fault. fault ≡ WordFault.Usage →
-        Takes (app_with name.entry.now (map argument_rule arguments.entry.now))
+        IsInGrammar (app_with name.entry.now (map argument_rule arguments.entry.now))
         (map string_bytes words.entry.now) → ⊥) }
 {
     let mut command = Command::new(alloc, name)

@@ -14,77 +14,79 @@ fn replay_words(alloc: Global, rest: &[&str]) -> Result<Vec<String>, AllocError>
     Ok(words)
 }
 
+// Whether the words after `replay` ask for this job file, scenario file, precedence file and number of cores.
+fn asks_for(
+    alloc: Global,
+    rest: &[&str],
+    want: (&str, &str, Option<&str>, u16),
+) -> Result<bool, AllocError> {
+    let words = replay_words(alloc, rest)?;
+    match &read_words(alloc, words.as_slice()) {
+        Ok(
+            Command::Replay {
+                jobs,
+                scenario,
+                prec,
+                cores,
+            },
+        ) => {
+            let prec = prec.as_ref().map(|name| name.as_str());
+            let got = (jobs.as_str(), scenario.as_str(), prec, *cores);
+            Ok(got == want)
+        }
+        Err(_) => Ok(false),
+    }
+}
+
 #[test]
-fn takes_words(rt: HostRuntime) -> Result<(), Fail> {
+fn takes_places_and_options(rt: HostRuntime) -> Result<(), Fail> {
     one_command();
-    let cases: [(&[&str], &str, &str, Option<&str>, u16); 22] = [
-        (&["J", "S"], "J", "S", None, 1),
-        (&["help", "S"], "help", "S", None, 1),
-        (&[" J", "S\t"], " J", "S\t", None, 1),
+    let cases: [(&[&str], (&str, &str, Option<&str>, u16)); 18] = [
+        (&["J", "S"], ("J", "S", None, 1)),
+        (&["help", "S"], ("help", "S", None, 1)),
+        (&[" J", "S\t"], (" J", "S\t", None, 1)),
         // Two files of one name, and the empty word and `-` as names.
-        (&["J", "J", "--prec", "J"], "J", "J", Some("J"), 1),
-        (&["", "-", "--prec="], "", "-", Some(""), 1),
-        (&["-", "", "--prec", ""], "-", "", Some(""), 1),
-        (&["J", "S", "--prec", "-"], "J", "S", Some("-"), 1),
+        (&["J", "J", "--prec", "J"], ("J", "J", Some("J"), 1)),
+        (&["", "-", "--prec="], ("", "-", Some(""), 1)),
+        (&["-", "", "--prec", ""], ("-", "", Some(""), 1)),
+        (&["J", "S", "--prec", "-"], ("J", "S", Some("-"), 1)),
         // Options stand before, between and after the places.
-        (&["--prec", "P", "J", "S"], "J", "S", Some("P"), 1),
-        (&["J", "--cores", "2", "S"], "J", "S", None, 2),
-        (&["J", "S", "--cores", "2"], "J", "S", None, 2),
+        (&["--prec", "P", "J", "S"], ("J", "S", Some("P"), 1)),
+        (&["J", "--cores", "2", "S"], ("J", "S", None, 2)),
+        (&["J", "S", "--cores", "2"], ("J", "S", None, 2)),
         (
             &["J", "--cores=7", "S", "--prec", "P"],
-            "J",
-            "S",
-            Some("P"),
-            7,
+            ("J", "S", Some("P"), 7),
         ),
-        (&["J", "S", "--prec=a=b"], "J", "S", Some("a=b"), 1),
-        (&["J", "S", "--prec=-x"], "J", "S", Some("-x"), 1),
-        (&["J", "S", "--prec=--"], "J", "S", Some("--"), 1),
+        (&["J", "S", "--prec=a=b"], ("J", "S", Some("a=b"), 1)),
+        (&["J", "S", "--prec=-x"], ("J", "S", Some("-x"), 1)),
+        (&["J", "S", "--prec=--"], ("J", "S", Some("--"), 1)),
         // After `--` each word is for a place.
-        (&["--", "--cores", "-x"], "--cores", "-x", None, 1),
-        (&["J", "--", "--"], "J", "--", None, 1),
-        (&["J", "--", "S"], "J", "S", None, 1),
+        (&["--", "--cores", "-x"], ("--cores", "-x", None, 1)),
+        (&["J", "--", "--"], ("J", "--", None, 1)),
+        (&["J", "--", "S"], ("J", "S", None, 1)),
         (
             &["--cores", "2", "--", "J", "--help"],
-            "J",
-            "--help",
-            None,
-            2,
-        ),
-        // Numbers.
-        (&["J", "S", "--cores", "1"], "J", "S", None, 1),
-        (&["J", "S", "--cores", "64"], "J", "S", None, 64),
-        (&["J", "S", "--cores=007"], "J", "S", None, 7),
-        (
-            &["J", "S", "--cores=00000000000000000000064"],
-            "J",
-            "S",
-            None,
-            64,
+            ("J", "--help", None, 2),
         ),
     ];
-    for (rest, want_jobs, want_scenario, want_prec, want_cores) in cases {
-        let words = replay_words(rt.alloc(), rest)?;
-        match &read_words(rt.alloc(), words.as_slice()) {
-            Ok(
-                Command::Replay {
-                    jobs,
-                    scenario,
-                    prec,
-                    cores,
-                },
-            ) => {
-                assert_eq!(rt; jobs.as_str(), want_jobs, "{rest:?}");
-                assert_eq!(rt; scenario.as_str(), want_scenario, "{rest:?}");
-                assert_eq!(rt;
-                    prec.as_ref().map(|name| name.as_str()),
-                    want_prec,
-                    "{rest:?}"
-                );
-                assert_eq!(rt; *cores, want_cores, "{rest:?}");
-            }
-            Err(fault) => assert!(rt; false, "{fault:?} at {rest:?}"),
-        }
+    for (rest, want) in cases {
+        assert!(rt; asks_for(rt.alloc(), rest, want)?, "{rest:?}");
+    }
+    Ok(())
+}
+
+#[test]
+fn takes_numbers(rt: HostRuntime) -> Result<(), Fail> {
+    for (number, cores) in [
+        ("1", 1),
+        ("256", 256),
+        ("007", 7),
+        ("00000000000000000000256", 256),
+    ] {
+        let rest = ["J", "S", "--cores", number];
+        let want = ("J", "S", None, cores);
+        assert!(rt; asks_for(rt.alloc(), &rest, want)?, "{number}");
     }
     Ok(())
 }
@@ -136,7 +138,7 @@ fn refuses_words(rt: HostRuntime) -> Result<(), Fail> {
         &["J", "S", "--", "--cores", "2"],
         // Numbers.
         &["J", "S", "--cores", "0"],
-        &["J", "S", "--cores", "65"],
+        &["J", "S", "--cores", "257"],
         &["J", "S", "--cores", "65537"],
         &["J", "S", "--cores", "18446744073709551617"],
         &["J", "S", "--cores", ""],

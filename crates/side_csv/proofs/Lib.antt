@@ -1,7 +1,7 @@
-pub mod FirstPrecedenceFaults
-pub mod FirstScenarioFaults
-pub mod PrecedenceLemmas
-pub mod RowLemmas
-pub mod ScenarioLemmas
+mod OnePrecedenceFault
+mod OneScenarioFault
+mod PrecedenceLemmas
+mod RowLemmas
+mod ScenarioLemmas
 mod WorkedPrecedence
 mod WriteLemmas

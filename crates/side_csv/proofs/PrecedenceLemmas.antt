@@ -4,9 +4,11 @@ use Rattle.std.specs.Prelude.{All}
 use Rattle.std.specs.List.{AllZip}
 use Rattle.std.proofs.lemmas.List.{get_or-map, length-map, length-take-le, take-append-drop}
 use Rattle.std.proofs.lemmas.List.Elements.{All-cons, All-nil}
+use Rattle.csv_numbers.specs.Laws.{RowsAgree, RowsKeepRules}
 use Rattle.csv_numbers.specs.Rows.{Rows}
-use Rattle.csv_numbers.proofs.Exact.{no-fault, one-list}
+use Rattle.lists.proofs.Elements.{zip-middle}
 use Rattle.job_model.specs.Table.{IsTable, Table, id_of, no_job}
+use Rattle.side_csv.specs.Laws.{OnePrecedence, PrecedenceKeepsRules}
 use Rattle.side_csv.specs.PrecedenceFaults.{FirstPrecedenceFault, IsKnown, ReachedEdgeRow}
 use Rattle.side_csv.specs.PrecedenceText.{HasIds, NamesEdge, PrecedenceText, predecessor_in, successor_in}
 use Rattle.side_csv.specs.declared.fault.SideFault.{SideFault}
@@ -54,9 +56,9 @@ one-edges table (row ∷ rows) is_table (e ∷ es) (f ∷ fs) one two =
     λ i. same i ∷ rest i
 
 -- a text has one list of edges
-pub one-precedence : (table : Table) (bytes : List ℕ) (rows : List (List ℕ)) (edges : List (ℕ × ℕ)) → Rows bytes 4 rows → ((t : List (ℕ × ℕ)) → AllZip (NamesEdge table) rows t → edges ≡ t)
-    → (t : List (ℕ × ℕ)) → PrecedenceText table bytes t → edges ≡ t
-one-precedence table bytes rows edges reads only t text = only t (subst (λ l. AllZip (NamesEdge table) l t) (one-list bytes 4 text.rows rows text.rows_are reads) text.edges_are)
+pub one-precedence : (table : Table) (bytes : List ℕ) (rows : List (List ℕ)) (edges : List (ℕ × ℕ)) → ((list : List (List ℕ)) → Rows bytes 4 list → rows ≡ list)
+    → ((t : List (ℕ × ℕ)) → AllZip (NamesEdge table) rows t → edges ≡ t) → (t : List (ℕ × ℕ)) → PrecedenceText table bytes t → edges ≡ t
+one-precedence table bytes rows edges agree only t text = only t (subst (λ l. AllZip (NamesEdge table) l t) (sym (agree text.rows text.rows_are)) text.edges_are)
 
 -- the edges that rows name are between jobs of the table
 pub edges-in_range : (table : Table) (rows : List (List ℕ)) (edges : List (ℕ × ℕ)) → AllZip (NamesEdge table) rows edges → All (λ e. (e.0 < length table.jobs) × (e.1 < length table.jobs)) edges
@@ -66,30 +68,25 @@ edges-in_range table (row ∷ rows) [] named = absurd named
 edges-in_range table (row ∷ rows) (e ∷ es) named =
     All-cons (λ (e : ℕ × ℕ). (e.0 < length table.jobs) × (e.1 < length table.jobs)) e es (named.0.predecessor.is_job, named.0.successor.is_job) (edges-in_range table rows es named.1)
 
--- of rows that name edges each names one
-pub edge-here : (table : Table) (before : List (List ℕ)) (here : List ℕ) (after : List (List ℕ)) (edges : List (ℕ × ℕ)) → AllZip (NamesEdge table) (before ++ here ∷ after) edges → (e : ℕ × ℕ) × NamesEdge table here e
-edge-here table [] here after [] named = absurd named
-edge-here table [] here after (e ∷ es) named = (e, named.0)
-edge-here table (row ∷ rows) here after [] named = absurd named
-edge-here table (row ∷ rows) here after (e ∷ es) named = edge-here table rows here after es named.1
-
 -- a text that breaks a rule is of no edges
-pub no-precedence : (table : Table) (bytes : List ℕ) (e : SideFault) → e ≢ fault.Memory → FirstPrecedenceFault table bytes e → (t : List (ℕ × ℕ)) → ¬ PrecedenceText table bytes t
-no-precedence table bytes (fault.Csv f) other first t text = no-fault bytes 4 f text.rows first.0 first.1 text.rows_are
-no-precedence table bytes (fault.Unknown row column) other first t text =
+pub no-precedence : RowsAgree → RowsKeepRules → (table : Table) (bytes : List ℕ) (e : SideFault) → e ≢ fault.Memory → FirstPrecedenceFault table bytes e → (t : List (ℕ × ℕ)) → ¬ PrecedenceText table bytes t
+no-precedence agree keep table bytes (fault.Csv f) other first t text = keep bytes 4 text.rows text.rows_are f first.0 first.1
+no-precedence agree keep table bytes (fault.Unknown row column) other first t text =
     let r = first.0 in
-    let same = one-list bytes 4 text.rows (r.before ++ r.here ∷ r.after) text.rows_are r.rows_are in
-    let (e, names) = edge-here table r.before r.here r.after t (subst (λ l. AllZip (NamesEdge table) l t) same text.edges_are) in
+    let same = agree bytes 4 text.rows (r.before ++ r.here ∷ r.after) text.rows_are r.rows_are in
+    let (e, names) = zip-middle (NamesEdge table) r.before r.here r.after t (subst (λ l. AllZip (NamesEdge table) l t) same text.edges_are) in
     elim first.1 [
       | inl one ↦ one.1 (known table e.0 (predecessor_in r.here) names.predecessor)
       | inr two ↦ two.2 (known table e.1 (successor_in r.here) names.successor)
     ]
-no-precedence table bytes (fault.Missing j) other first t text = first
-no-precedence table bytes (fault.Twice row earlier) other first t text = first
-no-precedence table bytes (fault.Outside row column) other first t text = first
-no-precedence table bytes fault.Memory other first t text = other refl
+no-precedence agree keep table bytes (fault.Missing j) other first t text = first
+no-precedence agree keep table bytes (fault.Twice row earlier) other first t text = first
+no-precedence agree keep table bytes (fault.Outside row column) other first t text = first
+no-precedence agree keep table bytes fault.Memory other first t text = other refl
 
--- a text is of one list of edges, where the IDs of the table differ
-pub precedence-same : (table : Table) (bytes : List ℕ) (one other : List (ℕ × ℕ)) → IsTable table → PrecedenceText table bytes one → PrecedenceText table bytes other → one ≡ other
-precedence-same table bytes one other is_table a b =
-    one-precedence table bytes a.rows one a.rows_are (λ t named. one-edges table a.rows (λ more. is_table) one t a.edges_are named) other b
+pub one_precedence : RowsAgree → OnePrecedence
+one_precedence agree table bytes one other is_table a b =
+    one-precedence table bytes a.rows one (λ list reads. agree bytes 4 a.rows list a.rows_are reads) (λ t named. one-edges table a.rows (λ more. is_table) one t a.edges_are named) other b
+
+pub precedence_keeps_rules : RowsAgree → RowsKeepRules → PrecedenceKeepsRules
+precedence_keeps_rules agree keep table bytes edges text e other first = no-precedence agree keep table bytes e other first edges text

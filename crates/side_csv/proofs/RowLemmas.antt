@@ -11,7 +11,7 @@ use Rattle.std.proofs.Math.Seq.{get_or-append_seam}
 use Rattle.job_model.specs.Scenario.{CanRunAs}
 use Rattle.job_model.specs.Table.{IsTable, Table, id_of, job_at, no_job}
 use Rattle.side_csv.specs.Places.{Places}
-use Rattle.side_csv.specs.ScenarioText.{IsGood, KeepRules, Names, cost_in, ids_of, release_in}
+use Rattle.side_csv.specs.ScenarioText.{IsGood, KeepRules, NamesJob, cost_in, ids_of, release_in}
 
 -- the IDs of each row are among those of the rows
 pub contains-row : (rows : List (List ℕ)) (k : ℕ) (y : ℕ × ℕ) → k < length rows → ids_of (get_or rows k []) ≡ y → Contains (map ids_of rows) y
@@ -53,11 +53,11 @@ job-same table is_table i j here there same = elim (cases_lt i j) [
 ]
 
 -- a row names one job
-pub names-same : (table : Table) → IsTable table → (row other : List ℕ) (i j : ℕ) → Names table row i → Names table other j → ids_of row ≡ ids_of other → i ≡ j
+pub names-same : (table : Table) → IsTable table → (row other : List ℕ) (i j : ℕ) → NamesJob table row i → NamesJob table other j → ids_of row ≡ ids_of other → i ≡ j
 names-same table is_table row other i j one two same = job-same table is_table i j one.is_job two.is_job (sym one.ids_are ∙ same ∙ two.ids_are)
 
 -- one more good row, of a job that no row names
-pub KeepRules-push : (table : Table) (rows : List (List ℕ)) (row : List ℕ) (j : ℕ) → KeepRules table rows → Names table row j → CanRunAs (job_at table j) (release_in row) (cost_in row)
+pub KeepRules-push : (table : Table) (rows : List (List ℕ)) (row : List ℕ) (j : ℕ) → KeepRules table rows → NamesJob table row j → CanRunAs (job_at table j) (release_in row) (cost_in row)
     → (¬ Contains (map ids_of rows) (id_of (job_at table j))) → KeepRules table (rows ++ row ∷ [])
 KeepRules-push table rows row j kept names can_run free = record {
   each = All-push (IsGood table) rows row kept.each (record { job = j; names = names; can_run = can_run });
@@ -80,7 +80,7 @@ places-within table rows places are j d below k some =
     (place-some table rows places j k are (omega (arith, are.one_each)) (get_or_default places j None d below ∙ some)).0
 
 -- a job that no row names, and that one more row does not name
-still-free : (table : Table) → IsTable table → (rows : List (List ℕ)) (row : List ℕ) (j i : ℕ) → Names table row j → i < length table.jobs → i ≢ j
+still-free : (table : Table) → IsTable table → (rows : List (List ℕ)) (row : List ℕ) (j i : ℕ) → NamesJob table row j → i < length table.jobs → i ≢ j
     → (¬ Contains (map ids_of rows) (id_of (job_at table i))) → ¬ Contains (map ids_of (rows ++ row ∷ [])) (id_of (job_at table i))
 still-free table is_table rows row j i names below apart free there = elim (row-contained-push rows row (id_of (job_at table i)) there) [
   | inl earlier ↦ free earlier
@@ -88,7 +88,7 @@ still-free table is_table rows row j i names below apart free there = elim (row-
 ]
 
 -- what the places say of a job, once one more row names another
-place-kept : (table : Table) → IsTable table → (rows : List (List ℕ)) (row : List ℕ) (j i : ℕ) (o : Option ℕ) → Names table row j → i < length table.jobs → i ≢ j
+place-kept : (table : Table) → IsTable table → (rows : List (List ℕ)) (row : List ℕ) (j i : ℕ) (o : Option ℕ) → NamesJob table row j → i < length table.jobs → i ≢ j
     → MatchOption o (¬ Contains (map ids_of rows) (id_of (job_at table i))) (λ k. (k < length rows) × (ids_of (get_or rows k []) ≡ id_of (job_at table i)))
     → MatchOption o (¬ Contains (map ids_of (rows ++ row ∷ [])) (id_of (job_at table i))) (λ k. (k < length (rows ++ row ∷ [])) × (ids_of (get_or (rows ++ row ∷ []) k []) ≡ id_of (job_at table i)))
 place-kept table is_table rows row j i None names below apart h = still-free table is_table rows row j i names below apart h
@@ -96,7 +96,7 @@ place-kept table is_table rows row j i (Some k) names below apart h =
     (omega (arith, h.0, length-append rows (row ∷ [])), ap ids_of (get_or_append_left rows (row ∷ []) [] k h.0) ∙ h.1)
 
 -- the places once one more row names a job that none named
-pub Places-push : (table : Table) → IsTable table → (rows : List (List ℕ)) (row : List ℕ) (places : List (Option ℕ)) (j : ℕ) → Places table rows places → Names table row j
+pub Places-push : (table : Table) → IsTable table → (rows : List (List ℕ)) (row : List ℕ) (places : List (Option ℕ)) (j : ℕ) → Places table rows places → NamesJob table row j
     → Places table (rows ++ row ∷ []) (set places j (Some (length rows)))
 Places-push table is_table rows row places j are names = record {
   one_each = length-set places j (Some (length rows)) ∙ are.one_each;

@@ -5,21 +5,22 @@ use Rattle.std.proofs.lemmas.Bool.{cases_lt}
 use Rattle.std.proofs.lemmas.Bool.Decides.{nat_tests}
 use Rattle.std.proofs.lemmas.List.{ext_get_or, get_or-map, length-map, get_or_default, get_or_append_left, length-take-le, take-append-drop}
 use Rattle.std.proofs.Math.Seq.{get_or-append_seam}
+use Rattle.csv_numbers.specs.Laws.{RowsAgree, RowsKeepRules}
 use Rattle.csv_numbers.specs.Rows.{FirstFault, Rows}
 use Rattle.csv_numbers.specs.declared.fault.CsvFault.{CsvFault}
 use Rattle.csv_numbers.specs.declared.fault.CsvFault.TheVariants as csv
-use Rattle.csv_numbers.proofs.Exact.{no-fault, one-list}
-use Rattle.job_model.specs.declared.Job.{Job}
+use Rattle.job_model.specs.declared.job_row.Job.{Job}
 use Rattle.job_model.specs.Scenario.{CanRunAs, Fits}
 use Rattle.job_model.specs.Table.{IsTable, Table, id_of, job_at, no_job}
-use Rattle.side_csv.specs.ScenarioFaults.{FirstSideFault, ReachedRow, first_outside, intervals, side_fault_of}
-use Rattle.side_csv.specs.ScenarioText.{Gives, IsGood, KeepRules, Names, ScenarioText, cost_in, ids_of, release_in}
+use Rattle.side_csv.specs.Laws.{OneScenario, ScenariosKeepRules}
+use Rattle.side_csv.specs.ScenarioFaults.{FirstScenarioFault, ReachedScenarioRow, first_outside, intervals, side_fault_of}
+use Rattle.side_csv.specs.ScenarioText.{GivesValues, IsGood, KeepRules, NamesJob, ScenarioText, cost_in, ids_of, release_in}
 use Rattle.side_csv.specs.declared.fault.SideFault.{SideFault}
 use Rattle.side_csv.specs.declared.fault.SideFault.TheVariants as fault
 use Rattle.side_csv.proofs.RowLemmas.{contains-row, names-same}
 
 -- the row at an index, where those before it keep the rules
-abbrev pub reached : (table : Table) (bytes : List ℕ) (rows : List (List ℕ)) (i : ℕ) → i < length rows → Rows bytes 4 rows → KeepRules table (take i rows) → ReachedRow table bytes (i + 1)
+abbrev pub reached : (table : Table) (bytes : List ℕ) (rows : List (List ℕ)) (i : ℕ) → i < length rows → Rows bytes 4 rows → KeepRules table (take i rows) → ReachedScenarioRow table bytes (i + 1)
 reached table bytes rows i below reads kept = record {
   before = take i rows;
   here = get_or rows i [];
@@ -31,10 +32,10 @@ reached table bytes rows i below reads kept = record {
 
 -- the jobs below n have a row that gives them their values
 abbrev pub Given : Table → List (List ℕ) → List (ℕ × ℕ) → ℕ → Type 0
-Given table rows values n = (j : ℕ) → j < n → Any (Gives table values j) rows
+Given table rows values n = (j : ℕ) → j < n → Any (GivesValues table values j) rows
 
 -- the values of one more job, which a row names
-pub Given-push : (table : Table) (rows : List (List ℕ)) (values : List (ℕ × ℕ)) (n k : ℕ) → length values ≡ n → Given table rows values n → k < length rows → Names table (get_or rows k []) n
+pub Given-push : (table : Table) (rows : List (List ℕ)) (values : List (ℕ × ℕ)) (n k : ℕ) → length values ≡ n → Given table rows values n → k < length rows → NamesJob table (get_or rows k []) n
     → Given table rows (values ++ (release_in (get_or rows k []), cost_in (get_or rows k [])) ∷ []) (n + 1)
 Given-push table rows values n k count given below names j less =
     let row = get_or rows k [] in
@@ -51,7 +52,7 @@ Given-push table rows values n k count given below names j less =
             row,
             below,
             get_or_default rows k row [] below,
-            record { names = subst (λ i. Names table row i) (sym (j_is ∙ count)) names; release_is = ap (λ p. p.0) (sym same); cost_is = ap (λ p. p.1) (sym same) },
+            record { names = subst (λ i. NamesJob table row i) (sym (j_is ∙ count)) names; release_is = ap (λ p. p.0) (sym same); cost_is = ap (λ p. p.1) (sym same) },
           )
     ]
 
@@ -98,13 +99,13 @@ same-given table rows s t kept s_each t_each s_given t_given =
     λ i. ((sym gives.release_is ∙ ap release_in row_same ∙ gives2.release_is) i, (sym gives.cost_is ∙ ap cost_in row_same ∙ gives2.cost_is) i))
 
 -- a text is of one scenario
-pub one-scenario : (table : Table) (bytes : List ℕ) (s t : List (ℕ × ℕ)) → ScenarioText table bytes s → ScenarioText table bytes t → s ≡ t
-one-scenario table bytes s t one two =
-    let same = one-list bytes 4 two.rows one.rows two.rows_are one.rows_are in
+pub one_scenario : RowsAgree → OneScenario
+one_scenario agree table bytes s t one two =
+    let same = agree bytes 4 two.rows one.rows two.rows_are one.rows_are in
     same-given table one.rows s t one.kept one.one_each two.one_each one.given (subst (λ l. Given table l t (length table.jobs)) same two.given)
 
 -- the first rule of CSV that a text breaks is the first that it breaks
-pub first-csv : (table : Table) (bytes : List ℕ) (e : CsvFault) → FirstFault bytes 4 e → FirstSideFault table bytes (side_fault_of e)
+pub first-csv : (table : Table) (bytes : List ℕ) (e : CsvFault) → FirstFault bytes 4 e → FirstScenarioFault table bytes (side_fault_of e)
 first-csv table bytes csv.NoHeading first = (λ e. cc, first)
 first-csv table bytes (csv.Width row found) first = (λ e. cc, first)
 first-csv table bytes (csv.NotNumber row column) first = (λ e. cc, first)
@@ -124,7 +125,7 @@ none-outside a row can =
     not_below m n h = grind (arith, nat_tests)
 
 -- a row that names a job has IDs of the table
-pub names-contained : (table : Table) (row : List ℕ) (j : ℕ) → Names table row j → Contains (map id_of table.jobs) (ids_of row)
+pub names-contained : (table : Table) (row : List ℕ) (j : ℕ) → NamesJob table row j → Contains (map id_of table.jobs) (ids_of row)
 names-contained table row j names =
     (j, omega (arith, names.is_job, length-map table.jobs id_of), get_or-map id_of table.jobs j no_job (ids_of row) names.is_job ∙ sym names.ids_are)
 
@@ -134,29 +135,32 @@ good-here table before here after kept =
     subst (IsGood table) (get_or-append_seam before here after []) (kept.each (length before) [] (omega (arith, length-append before (here ∷ after))))
 
 -- the rows of a scenario's text are those that were reached
-kept-there : (table : Table) (bytes : List ℕ) (row : ℕ) (r : ReachedRow table bytes row) (s : List (ℕ × ℕ)) → ScenarioText table bytes s → KeepRules table (r.before ++ r.here ∷ r.after)
-kept-there table bytes row r s text = subst (KeepRules table) (one-list bytes 4 text.rows (r.before ++ r.here ∷ r.after) text.rows_are r.rows_are) text.kept
+kept-there : RowsAgree → (table : Table) (bytes : List ℕ) (row : ℕ) (r : ReachedScenarioRow table bytes row) (s : List (ℕ × ℕ)) → ScenarioText table bytes s → KeepRules table (r.before ++ r.here ∷ r.after)
+kept-there agree table bytes row r s text = subst (KeepRules table) (agree bytes 4 text.rows (r.before ++ r.here ∷ r.after) text.rows_are r.rows_are) text.kept
 
 -- a text that breaks a rule is of no scenario
-pub no-scenario : (table : Table) → IsTable table → (bytes : List ℕ) (e : SideFault) → e ≢ fault.Memory → FirstSideFault table bytes e → (s : List (ℕ × ℕ)) → ¬ ScenarioText table bytes s
-no-scenario table is_table bytes (fault.Csv f) other first s text = no-fault bytes 4 f text.rows first.0 first.1 text.rows_are
-no-scenario table is_table bytes (fault.Unknown row column) other first s text =
+no-scenario : RowsAgree → RowsKeepRules → (table : Table) → IsTable table → (bytes : List ℕ) (e : SideFault) → e ≢ fault.Memory → FirstScenarioFault table bytes e → (s : List (ℕ × ℕ)) → ¬ ScenarioText table bytes s
+no-scenario agree keep table is_table bytes (fault.Csv f) other first s text = keep bytes 4 text.rows text.rows_are f first.0 first.1
+no-scenario agree keep table is_table bytes (fault.Unknown row column) other first s text =
     let r = first.0 in
-    let good = good-here table r.before r.here r.after (kept-there table bytes row r s text) in
+    let good = good-here table r.before r.here r.after (kept-there agree table bytes row r s text) in
     first.2 (names-contained table r.here good.job good.names)
-no-scenario table is_table bytes (fault.Missing j) other first s text =
+no-scenario agree keep table is_table bytes (fault.Missing j) other first s text =
     let there = given-contained table text.rows s (length table.jobs) text.given j first.is_job in
-    first.missing (subst (λ l. Contains (map ids_of l) (id_of (job_at table j))) (one-list bytes 4 text.rows first.rows text.rows_are first.rows_are) there)
-no-scenario table is_table bytes (fault.Twice row earlier) other first s text =
+    first.missing (subst (λ l. Contains (map ids_of l) (id_of (job_at table j))) (agree bytes 4 text.rows first.rows text.rows_are first.rows_are) there)
+no-scenario agree keep table is_table bytes (fault.Twice row earlier) other first s text =
     let (r, j, names, k, below, place, names_too) = first in
-    let kept = kept-there table bytes row r s text in
+    let kept = kept-there agree table bytes row r s text in
     let front : get_or (r.before ++ r.here ∷ r.after) k [] ≡ get_or r.before k [] = get_or_append_left r.before (r.here ∷ r.after) [] k below in
     let last : get_or (r.before ++ r.here ∷ r.after) (length r.before) [] ≡ r.here = get_or-append_seam r.before r.here r.after [] in
     kept.ids_differ k (length r.before) [] below (omega (arith, length-append r.before (r.here ∷ r.after))) (ap ids_of front ∙ names_too.ids_are ∙ sym names.ids_are ∙ ap ids_of (sym last))
-no-scenario table is_table bytes (fault.Outside row column) other first s text =
+no-scenario agree keep table is_table bytes (fault.Outside row column) other first s text =
     let (r, j, names, free, outside) = first in
-    let good = good-here table r.before r.here r.after (kept-there table bytes row r s text) in
+    let good = good-here table r.before r.here r.after (kept-there agree table bytes row r s text) in
     let same = names-same table is_table r.here r.here good.job j good.names names refl in
     let can = subst (λ i. CanRunAs (job_at table i) (release_in r.here) (cost_in r.here)) same good.can_run in
     let none = none-outside (job_at table j) r.here can in cc (none, outside)
-no-scenario table is_table bytes fault.Memory other first s text = other refl
+no-scenario agree keep table is_table bytes fault.Memory other first s text = other refl
+
+pub scenarios_keep_rules : RowsAgree → RowsKeepRules → ScenariosKeepRules
+scenarios_keep_rules agree keep table bytes scenario is_table text e other first = no-scenario agree keep table is_table bytes e other first scenario text

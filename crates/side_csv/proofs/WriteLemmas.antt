@@ -6,7 +6,7 @@ use Rattle.csv_numbers.specs.Rows.{Rows}
 use Rattle.job_model.specs.Scenario.{Fits}
 use Rattle.job_model.specs.Table.{IsTable, Table}
 use Rattle.side_csv.specs.ScenarioRows.{scenario_row, scenario_rows}
-use Rattle.side_csv.specs.ScenarioText.{IsGood, Names, ScenarioText, ids_of}
+use Rattle.side_csv.specs.ScenarioText.{IsGood, NamesJob, ScenarioText, ids_of}
 use Rattle.side_csv.proofs.RowLemmas.{job-same}
 
 -- the row at a job's number
@@ -14,7 +14,7 @@ row-at : (table : Table) (scenario : List (ℕ × ℕ)) (j : ℕ) (d : List ℕ)
 row-at table scenario j d below = get_or-map-range_with_len (scenario_row table scenario) 0 (length table.jobs) j j d below (zero-add j)
 
 -- it names that job
-names-at : (table : Table) (scenario : List (ℕ × ℕ)) (j : ℕ) → j < length table.jobs → Names table (scenario_row table scenario j) j
+names-at : (table : Table) (scenario : List (ℕ × ℕ)) (j : ℕ) → j < length table.jobs → NamesJob table (scenario_row table scenario j) j
 names-at table scenario j below = record { is_job = below; ids_are = refl }
 
 -- a text of these rows is one of the scenario

@@ -9,7 +9,7 @@ use Rattle.std.specs.Prelude.{◌≡◌, ◌≢◌, ℕ, List}
 use Rattle.job_model.specs.Table.{IsTable, Table}
 use Rattle.side_csv.specs.PrecedenceFaults.{FirstPrecedenceFault}
 use Rattle.side_csv.specs.PrecedenceText.{PrecedenceText}
-use Rattle.side_csv.specs.ScenarioFaults.{FirstSideFault}
+use Rattle.side_csv.specs.ScenarioFaults.{FirstScenarioFault}
 use Rattle.side_csv.specs.ScenarioText.{ScenarioText}
 use Rattle.side_csv.specs.declared.fault.SideFault.{SideFault}
 use Rattle.side_csv.specs.declared.fault.SideFault.TheVariants as fault
@@ -39,10 +39,10 @@ OneScenario = (table : Table) (bytes : List ℕ) (one other : List (ℕ × ℕ))
 abbrev pub OneScenarioFault : Type 0
 OneScenarioFault =
     (table : Table) (bytes : List ℕ) (one other : SideFault) → IsTable table → one ≢ fault.Memory → other ≢ fault.Memory →
-    FirstSideFault table bytes one → FirstSideFault table bytes other → one ≡ other
+    FirstScenarioFault table bytes one → FirstScenarioFault table bytes other → one ≡ other
 
 -- A scenario file that gives a scenario breaks no rule.
 abbrev pub ScenariosKeepRules : Type 0
 ScenariosKeepRules =
     (table : Table) (bytes : List ℕ) (scenario : List (ℕ × ℕ)) → IsTable table → ScenarioText table bytes scenario →
-    (e : SideFault) → e ≢ fault.Memory → ¬ FirstSideFault table bytes e
+    (e : SideFault) → e ≢ fault.Memory → ¬ FirstScenarioFault table bytes e

@@ -1,17 +1,17 @@
 -- The first rule that a scenario file breaks. Rows are counted from 1, after the heading, and columns from 1.
 --     first_outside columns                 the leftmost column that is outside its interval
---     ReachedRow table bytes row            the row of this number, where those before it keep the rules
+--     ReachedScenarioRow table bytes row    the row of this number, where those before it keep the rules
 --     MissingJob table bytes j              the first job without a row
 --     side_fault_of fault                   a fault of CSV as one of these
---     FirstSideFault table bytes fault      the first broken rule; want of memory may come at any file
+--     FirstScenarioFault table bytes fault  the first broken rule; want of memory may come at any file
 use Rattle.std.specs.Prelude.{◌≡◌, ◌≢◌, ◌+◌, ◌<◌, ◌++◌, ◌∷◌, ◌||◌, [], ℕ, List, Option, Some, Contains, find, length, map, nat_lt, slice_index_or, ⊤}
 use Rattle.std.specs.Option.{option_map}
 use Rattle.csv_numbers.specs.Rows.{FirstFault, Rows}
 use Rattle.csv_numbers.specs.declared.fault.CsvFault.{CsvFault}
 use Rattle.csv_numbers.specs.declared.fault.CsvFault.TheVariants as csv
-use Rattle.job_model.specs.declared.Job.{Job}
+use Rattle.job_model.specs.declared.job_row.Job.{Job}
 use Rattle.job_model.specs.Table.{Table, id_of, job_at}
-use Rattle.side_csv.specs.ScenarioText.{KeepRules, Names, cost_in, ids_of, release_in}
+use Rattle.side_csv.specs.ScenarioText.{KeepRules, NamesJob, cost_in, ids_of, release_in}
 use Rattle.side_csv.specs.declared.fault.SideFault.{SideFault}
 use Rattle.side_csv.specs.declared.fault.SideFault.TheVariants as fault
 
@@ -24,7 +24,7 @@ abbrev pub first_outside : List (ℕ × ℕ × ℕ × ℕ) → Option ℕ
 first_outside columns = option_map (λ c. c.0) (find (λ c. nat_lt c.1 c.2 || nat_lt c.3 c.1) columns)
 
 -- The row of this number, where all rows are numbers and those before it keep the rules.
-pub record ReachedRow (table : Table) (bytes : List ℕ) (row : ℕ) : Type 0 where
+pub record ReachedScenarioRow (table : Table) (bytes : List ℕ) (row : ℕ) : Type 0 where
   pub before : List (List ℕ)
   pub here : List ℕ
   pub after : List (List ℕ)
@@ -48,12 +48,12 @@ side_fault_of e = fault.Csv e
 
 -- The first rule that a file breaks: the CSV rules of all rows; then by row that it names a job, that no earlier row
 -- names it, and that its release and then its cost is in the job's interval; then that each job has a row.
-abbrev pub FirstSideFault : Table → List ℕ → SideFault → Type 0
-FirstSideFault table bytes (fault.Csv e) = (e ≢ csv.Memory) × FirstFault bytes 4 e
-FirstSideFault table bytes (fault.Unknown row column) = (r : ReachedRow table bytes row) × (column ≡ 1) × (¬ Contains (map id_of table.jobs) (ids_of r.here))
-FirstSideFault table bytes (fault.Missing j) = MissingJob table bytes j
-FirstSideFault table bytes (fault.Twice row earlier) = (r : ReachedRow table bytes row) × (j : ℕ) × Names table r.here j
-    × (k : ℕ) × (k < length r.before) × (earlier ≡ k + 1) × Names table (slice_index_or r.before k []) j
-FirstSideFault table bytes (fault.Outside row column) = (r : ReachedRow table bytes row) × (j : ℕ) × Names table r.here j
+abbrev pub FirstScenarioFault : Table → List ℕ → SideFault → Type 0
+FirstScenarioFault table bytes (fault.Csv e) = (e ≢ csv.Memory) × FirstFault bytes 4 e
+FirstScenarioFault table bytes (fault.Unknown row column) = (r : ReachedScenarioRow table bytes row) × (column ≡ 1) × (¬ Contains (map id_of table.jobs) (ids_of r.here))
+FirstScenarioFault table bytes (fault.Missing j) = MissingJob table bytes j
+FirstScenarioFault table bytes (fault.Twice row earlier) = (r : ReachedScenarioRow table bytes row) × (j : ℕ) × NamesJob table r.here j
+    × (k : ℕ) × (k < length r.before) × (earlier ≡ k + 1) × NamesJob table (slice_index_or r.before k []) j
+FirstScenarioFault table bytes (fault.Outside row column) = (r : ReachedScenarioRow table bytes row) × (j : ℕ) × NamesJob table r.here j
     × (¬ Contains (map ids_of r.before) (ids_of r.here)) × (first_outside (intervals (job_at table j) r.here) ≡ Some column)
-FirstSideFault table bytes fault.Memory = ⊤
+FirstScenarioFault table bytes fault.Memory = ⊤

@@ -4,8 +4,8 @@
 --     scenario_rows table scenario    the rows of all jobs, by number
 --     scenario_text table scenario    the heading and the rows
 use Rattle.std.specs.Prelude.{ℕ, List, [], ◌∷◌, codes, length, map}
-use Rattle.csv_numbers.specs.TableText.{table_text}
-use Rattle.job_model.specs.Numbers.{numbers_below}
+use Rattle.csv_numbers.specs.RowsText.{rows_text}
+use Rattle.lists.specs.Numbers.{numbers_below}
 use Rattle.job_model.specs.Scenario.{cost_of, release_of}
 use Rattle.job_model.specs.Table.{Table, job_at}
 
@@ -23,4 +23,4 @@ scenario_rows table scenario = map (scenario_row table scenario) (numbers_below 
 
 -- the heading, and a row for each job by its number
 abbrev pub scenario_text : Table → List (ℕ × ℕ) → List ℕ
-scenario_text table scenario = table_text scenario_heading (scenario_rows table scenario)
+scenario_text table scenario = rows_text scenario_heading (scenario_rows table scenario)

@@ -1,7 +1,7 @@
 -- Scenario files: a row for each job, in any order.
 --     ids_of row, release_in row, cost_in row     the columns of a row
---     Names table row j                           the row has the IDs of job number j
---     Gives table scenario j row                  the row gives job number j its release and cost of the scenario
+--     NamesJob table row j                        the row has the IDs of job number j
+--     GivesValues table scenario j row            the row gives job number j its release and cost of the scenario
 --     KeepRules table rows                        what the rows keep, whether or not each job has one
 --     ScenarioText table bytes scenario           the file gives each job its release and cost of the scenario
 use Rattle.std.specs.Prelude.{◌≡◌, ◌≢◌, ◌<◌, ℕ, List, length, slice_index, All, AllPairs, Any}
@@ -20,20 +20,20 @@ abbrev pub cost_in : List ℕ → ℕ
 cost_in row = slice_index row 3
 
 -- the row has the IDs of job number j
-pub record Names (table : Table) (row : List ℕ) (j : ℕ) : Type 0 where
+pub record NamesJob (table : Table) (row : List ℕ) (j : ℕ) : Type 0 where
   pub is_job : j < length table.jobs
   pub ids_are : ids_of row ≡ id_of (job_at table j)
 
 -- the row gives job number j its release and cost of the scenario
-pub record Gives (table : Table) (scenario : List (ℕ × ℕ)) (j : ℕ) (row : List ℕ) : Type 0 where
-  pub names : Names table row j
+pub record GivesValues (table : Table) (scenario : List (ℕ × ℕ)) (j : ℕ) (row : List ℕ) : Type 0 where
+  pub names : NamesJob table row j
   pub release_is : release_in row ≡ release_of scenario j
   pub cost_is : cost_in row ≡ cost_of scenario j
 
 -- the row names a job, with a release and a cost in its intervals
 pub record IsGood (table : Table) (row : List ℕ) : Type 0 where
   pub job : ℕ
-  pub names : Names table row job
+  pub names : NamesJob table row job
   pub can_run : CanRunAs (job_at table job) (release_in row) (cost_in row)
 
 -- each row is good, and no two have the same IDs
@@ -47,4 +47,4 @@ pub record ScenarioText (table : Table) (bytes : List ℕ) (scenario : List (ℕ
   pub rows_are : Rows bytes 4 rows
   pub kept : KeepRules table rows
   pub one_each : length scenario ≡ length table.jobs
-  pub given : (j : ℕ) → j < length table.jobs → Any (Gives table scenario j) rows
+  pub given : (j : ℕ) → j < length table.jobs → Any (GivesValues table scenario j) rows

@@ -1,4 +1,4 @@
-// Why a file beside the job table is refused.
+//! Why a file beside the job table is refused.
 
 ghost use Rattle.std.specs.Prelude.{◌≡◌};
 ghost use Rattle.side_csv.specs.ScenarioFaults.{side_fault_of};

@@ -1,33 +1,53 @@
-// Laws of precedence files and of scenario files.
+//! Laws of precedence files and of scenario files.
 
 ghost use Rattle.side_csv.specs.Laws.{OnePrecedence, OnePrecedenceFault, OneScenario, OneScenarioFault, PrecedenceKeepsRules, ScenariosKeepRules};
+
+use csv_numbers::{one_first_fault, rows_agree, rows_keep_rules};
 
 /// The bytes of a precedence file fix its edges.
 pub fn one_precedence()
     ensures { OnePrecedence }
-{}
+{
+    rows_agree();
+}
 
 /// A precedence file has at most one first broken rule, beside want of memory.
 pub fn one_precedence_fault()
     ensures { OnePrecedenceFault }
-{}
+{
+    rows_agree();
+    rows_keep_rules();
+    one_first_fault();
+}
 
 /// A precedence file whose rows name edges breaks no rule.
 pub fn precedence_keeps_rules()
     ensures { PrecedenceKeepsRules }
-{}
+{
+    rows_agree();
+    rows_keep_rules();
+}
 
 /// The bytes of a scenario file fix the scenario.
 pub fn one_scenario()
     ensures { OneScenario }
-{}
+{
+    rows_agree();
+}
 
 /// A scenario file has at most one first broken rule, beside want of memory.
 pub fn one_scenario_fault()
     ensures { OneScenarioFault }
-{}
+{
+    rows_agree();
+    rows_keep_rules();
+    one_first_fault();
+}
 
 /// A scenario file that gives a scenario breaks no rule.
 pub fn scenarios_keep_rules()
     ensures { ScenariosKeepRules }
-{}
+{
+    rows_agree();
+    rows_keep_rules();
+}

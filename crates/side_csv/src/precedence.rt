@@ -1,4 +1,4 @@
-// Reading precedence files.
+//! Reading precedence files.
 
 ghost use Rattle.std.specs.Prelude.{◌≡◌, ◌≢◌, ◌<◌, ℕ, All, IfErr, IfOk, List, length};
 ghost use Rattle.std.specs.List.{AllZip};
@@ -8,7 +8,8 @@ ghost use Rattle.side_csv.specs.PrecedenceFaults.{FirstPrecedenceFault, ReachedE
 ghost use Rattle.side_csv.specs.PrecedenceText.{NamesEdge, PrecedenceText};
 
 use crate::SideFault;
-use csv_numbers::{NumberRow, read_numbers};
+use crate::laws::precedence_keeps_rules;
+use csv_numbers::{NumberRows, read_numbers};
 use job_model::{JobNo, JobTable};
 use std::alloc::Global;
 
@@ -32,7 +33,7 @@ fn edge_of_row(row: &[u64], place: u64, table: &JobTable) -> Result<(JobNo, JobN
 // The edge of each row, in their order.
 fn edges_of_rows(
     alloc: Global,
-    rows: &[NumberRow],
+    rows: &NumberRows,
     table: &JobTable,
 ) -> Result<Vec<(JobNo, JobNo)>, SideFault>
     requires { All (λ row. length row ≡ 4) rows.now }
@@ -45,8 +46,8 @@ fn edges_of_rows(
     let Ok(mut edges) = Vec::with_capacity(alloc, rows.len()) else {
         return Err(SideFault::Memory);
     };
-    for (i, row) in rows.iter().enumerate() {
-        let edge = edge_of_row(row.as_slice(), i as u64 + 1, table)?;
+    for i in 0..rows.len() {
+        let edge = edge_of_row(rows.row(i), i as u64 + 1, table)?;
         if edges.push(edge).is_err() {
             return Err(SideFault::Memory);
         }
@@ -72,6 +73,8 @@ pub fn read_edges(
     ensures refused { IfErr result (λ fault. fault ≢ SideFault.Memory
         → (t : List (ℕ × ℕ)) → ¬ PrecedenceText table.now bytes.now t) }
 {
+    // A law of precedence files, which the proof takes.
+    precedence_keeps_rules();
     let rows = read_numbers(alloc, bytes, 4)?;
     edges_of_rows(alloc, &rows, table)
 }

@@ -1,4 +1,4 @@
-// Reading scenario files.
+//! Reading scenario files.
 
 ghost use Rattle.std.specs.Prelude.{◌≡◌, ◌≢◌, ◌<◌, ℕ, All, Any, IfErr, IfOk, List, None, OnOk, length, slice_index_or};
 ghost use Rattle.std.specs.Option.{ForSome};
@@ -6,12 +6,13 @@ ghost use Rattle.csv_numbers.specs.Rows.{Rows};
 ghost use Rattle.job_model.specs.Scenario.{CanRunAs, Fits};
 ghost use Rattle.job_model.specs.Table.{IsTable, job_at};
 ghost use Rattle.side_csv.specs.Places.{Places};
-ghost use Rattle.side_csv.specs.ScenarioFaults.{FirstSideFault, ReachedRow};
+ghost use Rattle.side_csv.specs.ScenarioFaults.{FirstScenarioFault, ReachedScenarioRow};
 ghost use Rattle.side_csv.specs.ScenarioFaults.{first_outside as outside};
-ghost use Rattle.side_csv.specs.ScenarioText.{Gives, KeepRules, Names, ScenarioText, cost_in, release_in};
+ghost use Rattle.side_csv.specs.ScenarioText.{GivesValues, KeepRules, NamesJob, ScenarioText, cost_in, release_in};
 
 use crate::SideFault;
-use csv_numbers::{NumberRow, read_numbers};
+use crate::laws::{one_scenario, scenarios_keep_rules};
+use csv_numbers::{NumberRows, read_numbers};
 use job_model::{JobNo, JobTable, Scenario};
 use std::alloc::Global;
 
@@ -38,13 +39,13 @@ fn job_of_row(
     requires four { length row.now ≡ 4 }
     requires one_each { length places.now ≡ length table.now.jobs }
     requires earlier { All (λ o. ForSome o (λ k. k < place)) places.now }
-    ensures names { IfOk result (Names table.now row.now) }
+    ensures names { IfOk result (NamesJob table.now row.now) }
     ensures free { IfOk result (λ j. slice_index_or places.now j None ≡ None) }
     ensures can_run { IfOk result (λ j.
         CanRunAs (job_at table.now j) (release_in row.now) (cost_in row.now)) }
-    ensures fault { IfErr result (λ e. (bytes : List ℕ) (r : ReachedRow table.now bytes place)
+    ensures fault { IfErr result (λ e. (bytes : List ℕ) (r : ReachedScenarioRow table.now bytes place)
         → r.here ≡ row.now → Places table.now r.before places.now
-        → FirstSideFault table.now bytes e) }
+        → FirstScenarioFault table.now bytes e) }
 {
     let Some(no) = table.find(row[0], row[1]) else {
         return Err(SideFault::Unknown(place, 1));
@@ -66,7 +67,7 @@ fn job_of_row(
 // For each job the index of its row, if it has one.
 fn find_rows(
     alloc: Global,
-    rows: &[NumberRow],
+    rows: &NumberRows,
     table: &JobTable,
 ) -> Result<Vec<Option<usize>>, SideFault>
     requires { All (λ row. length row ≡ 4) rows.now }
@@ -74,13 +75,13 @@ fn find_rows(
     ensures kept { OnOk result (KeepRules table.now rows.now) }
     ensures table { IsTable table.now }
     ensures fault { IfErr result (λ e.
-        (bytes : List ℕ) → Rows bytes 4 rows.now → FirstSideFault table.now bytes e) }
+        (bytes : List ℕ) → Rows bytes 4 rows.now → FirstScenarioFault table.now bytes e) }
 {
     let Ok(mut places) = vec![in alloc; None; usize::from(table.len())] else {
         return Err(SideFault::Memory);
     };
-    for (i, row) in rows.iter().enumerate() {
-        let no = job_of_row(row.as_slice(), i as u64 + 1, table, &places)?;
+    for i in 0..rows.len() {
+        let no = job_of_row(rows.row(i), i as u64 + 1, table, &places)?;
         places[usize::from(no.0)] = Some(i);
     }
     Ok(places)
@@ -89,7 +90,7 @@ fn find_rows(
 // The release and the cost of each job, where each has a row.
 fn values_of_jobs(
     alloc: Global,
-    rows: &[NumberRow],
+    rows: &NumberRows,
     table: &JobTable,
     places: &[Option<usize>],
 ) -> Result<Vec<(u64, u64)>, SideFault>
@@ -97,9 +98,9 @@ fn values_of_jobs(
     requires places { Places table.now rows.now places.now }
     ensures one_each { IfOk result (λ values. length values.items ≡ length table.now.jobs) }
     ensures given { IfOk result (λ values. (j : ℕ) → j < length table.now.jobs →
-        Any (Gives table.now values.items j) rows.now) }
+        Any (GivesValues table.now values.items j) rows.now) }
     ensures fault { IfErr result (λ e. (bytes : List ℕ) → Rows bytes 4 rows.now
-        → KeepRules table.now rows.now → FirstSideFault table.now bytes e) }
+        → KeepRules table.now rows.now → FirstScenarioFault table.now bytes e) }
 {
     let Ok(mut values) = Vec::with_capacity(alloc, places.len()) else {
         return Err(SideFault::Memory);
@@ -108,7 +109,7 @@ fn values_of_jobs(
         let Some(place) = places[usize::from(j)] else {
             return Err(SideFault::Missing(JobNo(j)));
         };
-        let row = rows[place].as_slice();
+        let row = rows.row(place);
         if values.push((row[2], row[3])).is_err() {
             return Err(SideFault::Memory);
         }
@@ -122,10 +123,13 @@ pub fn read_scenario(alloc: Global, bytes: &[u8], table: &JobTable) -> Result<Sc
     ensures fits { IfOk result (Fits table.now) }
     ensures only { IfOk result (λ s.
         (t : List (ℕ × ℕ)) → ScenarioText table.now bytes.now t → s ≡ t) }
-    ensures fault { IfErr result (FirstSideFault table.now bytes.now) }
+    ensures fault { IfErr result (FirstScenarioFault table.now bytes.now) }
     ensures refused { IfErr result (λ fault. fault ≢ SideFault.Memory
         → (s : List (ℕ × ℕ)) → ¬ ScenarioText table.now bytes.now s) }
 {
+    // Laws of scenario files, which the proof takes.
+    one_scenario();
+    scenarios_keep_rules();
     let rows = read_numbers(alloc, bytes, 4)?;
     let places = find_rows(alloc, &rows, table)?;
     let values = values_of_jobs(alloc, &rows, table, &places)?;

@@ -1,4 +1,4 @@
-// Writing scenario files.
+//! Writing scenario files.
 
 ghost use Rattle.std.specs.Prelude.{◌≡◌, ◌<◌, IfOk, length};
 ghost use Rattle.job_model.specs.Scenario.{Fits};

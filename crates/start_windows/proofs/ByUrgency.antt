@@ -7,7 +7,7 @@ use Rattle.std.proofs.lemmas.List.{map-append, nil_from_length}
 use Rattle.std.proofs.lemmas.List.Sums.{sum_by-cons}
 use Rattle.job_sets.specs.Subset.{is_member, is_rising}
 use Rattle.job_model.specs.Laws.{RanksOrderJobs}
-use Rattle.job_model.specs.Numbers.{greatest}
+use Rattle.lists.specs.Numbers.{greatest}
 use Rattle.job_model.specs.Ranks.{rank_of}
 use Rattle.job_model.specs.Table.{Table, IsTable, has_urgency_over, job_at, predecessors}
 use Rattle.sag_time.specs.Interval.{Interval}

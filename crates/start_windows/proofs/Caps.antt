@@ -5,7 +5,7 @@ use Rattle.std.specs.List.{cons_option, filter_map}
 use Rattle.std.specs.Option.{option_map_or}
 use Rattle.std.proofs.lemmas.Bool.{cond-false, lt-ltb, le-ltb}
 use Rattle.std.proofs.lemmas.Bool.Decides.{nat_tests}
-use Rattle.job_model.specs.Numbers.{greatest, least}
+use Rattle.lists.specs.Numbers.{greatest, least}
 use Rattle.start_windows.specs.declared.StartWindow.{StartWindow}
 use Rattle.start_windows.specs.declared.eligibility.Prospect.{Prospect}
 use Rattle.start_windows.specs.Window.{is_before, last_before}

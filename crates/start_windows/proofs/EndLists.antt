@@ -1,6 +1,6 @@
 -- Lists of finish times: what an appended or replaced item leaves, and look-ups by number.
-use Rattle.std.proofs.Common.{◌≡◌, ◌≢◌, ◌∙◌, ℕ, Result, Ok, Err, zero, suc, ◌+◌, ◌-◌, ◌^◌, ◌<◌, ◌≤◌, Bool, true, false, List, [], ◌∷◌, ◌++◌, length, set, get_or, slice_get, Some, None, refl, sym, ap, arith, inl, inr, nat_eq, IsTrue}
-use Rattle.std.specs.Prelude.{nat_lt, nat_le}
+use Rattle.std.proofs.Common.{◌≡◌, ◌≢◌, ◌∙◌, ℕ, cond, Result, Ok, Err, zero, suc, ◌+◌, ◌-◌, ◌^◌, ◌<◌, ◌≤◌, Bool, true, false, List, [], ◌∷◌, ◌++◌, length, set, get_or, slice_get, Some, None, refl, sym, ap, arith, inl, inr, nat_eq, IsTrue}
+use Rattle.std.specs.Prelude.{nat_lt, nat_le, is_some, ◌==◌, ◌||◌}
 use Rattle.std.specs.List.{list_all}
 use Rattle.std.specs.Map.{keys_of, lookup}
 use Rattle.std.proofs.lemmas.Bool.{and_parts, and_from, cases_lt, ltb-true, lt-ltb, le-ltb, le-leb, ne_eqb, eq-eqb}
@@ -8,15 +8,16 @@ use Rattle.std.proofs.lemmas.List.{length-append, length-map, length-set, map-ap
 use Rattle.std.proofs.lemmas.List.Recursion.{and_at, and_push, and_set, and_fails_at, and_from_places, found_at, found_nowhere}
 use Rattle.std.proofs.lemmas.List.Sorted.{searchable_from_sorted}
 use Rattle.std.proofs.lemmas.Bool.Decides.{nat_tests}
-use Rattle.std.proofs.lemmas.Option.{get_or_from_slice_get, slice_get_within}
+use Rattle.std.proofs.lemmas.Option.{get_or_from_slice_get, slice_get-get_or, slice_get_within}
 use Rattle.std.proofs.lemmas.Cmp.{nat_cmp_total, tied_itself, ranked, by_ranked}
 use Rattle.std.specs.List.Sorted.{IsBinarySearchResult, IsSearchInRange, IsSortedBy}
 use Rattle.std.specs.Ordering.{nat_cmp, is_lt}
 use Rattle.std.specs.declared.cmp.Ordering.TheVariants.{Equal}
 use Rattle.std.specs.Result.{result_ok}
-use Rattle.job_sets.specs.Subset.{is_rising}
+use Rattle.job_sets.specs.Subset.{is_member, is_rising}
 use Rattle.sag_time.specs.Interval.{Interval}
 use Rattle.start_windows.specs.Ends.{HeldEnds, IsEnds, end_of, is_above}
+use Rattle.lists.proofs.Orderings.{numbers_tie}
 
 all_at : {X : Type 0} (p : X → Bool) (xs : List X) (i : ℕ) (d : X) → i < length xs → list_all p xs ≡ true → p (get_or xs i d) ≡ true
 all_at p xs i d below all = and_at (list_all p) p refl (λ _ _. refl) xs i d below all
@@ -42,9 +43,6 @@ rises (x ∷ xs) zero (suc k) rising less below =
 rises (x ∷ xs) (suc i) (suc k) rising less below =
     let parts = and_parts (list_all (nat_lt x) xs) (is_rising xs) rising in
     rises xs i k parts.1 (omega (arith, less)) (omega (arith, below))
-
-numbers_tie : (x y : ℕ) → nat_cmp x y ≡ Equal → x ≡ y
-numbers_tie x y tied = by_ranked (x < y) (x ≡ y) (y < x) (nat_cmp x y) (ranked x y (nat_cmp x y) refl) (λ less _. cc (less, tied)) (λ _ same. same) (λ greater _. cc (greater, tied))
 
 module _ (items : List (ℕ × Interval)) (rising : IsTrue (is_rising (keys_of items))) where
   count : length (keys_of items) ≡ length items
@@ -112,6 +110,17 @@ module _ (items : List (ℕ × Interval)) (rising : IsTrue (is_rising (keys_of i
       end_of-found j place e (omega (arith, same, range)) here own
   end_of-searched j place e (Err i) range searched is here = cc
 
+  pub place-searched : (j place : ℕ) (r : Result ℕ ℕ) → IsSearchInRange r (length items) → IsBinarySearchResult (λ d. nat_cmp d.0 j) items r → result_ok r ≡ Some place →
+      slice_get (keys_of items) place ≡ Some j
+  place-searched j place (Ok i) range searched is =
+      let none : ℕ × Interval = (0, record { lo = 0; hi = 0 }) in
+      let same : i ≡ place = grind (arith, is) in
+      let below : place < length items = omega (arith, same, range) in
+      let equal : nat_cmp (get_or items place none).0 j ≡ Equal = rw (sym same) (searched none) in
+      let own : get_or (keys_of items) place 0 ≡ j = get_or-map (λ (d : ℕ × Interval). d.0) items place none 0 below ∙ numbers_tie (get_or items place none).0 j equal in
+      slice_get-get_or (keys_of items) place 0 (omega (arith, below, count)) ∙ ap Some own
+  place-searched j place (Err i) range searched is = cc
+
   pub end_of-missed : (j : ℕ) (r : Result ℕ ℕ) → IsBinarySearchResult (λ d. nat_cmp d.0 j) items r → result_ok r ≡ None → end_of items j ≡ None
   end_of-missed j (Ok i) searched is = cc
   end_of-missed j (Err i) searched is =
@@ -125,6 +134,15 @@ module _ (items : List (ℕ × Interval)) (rising : IsTrue (is_rising (keys_of i
     where
       equal_cmp : (a b : ℕ) → a ≡ b → nat_cmp a b ≡ Equal
       equal_cmp a b e = rw e (tied_itself nat_cmp_total b)
+
+-- a job with an interval is listed
+pub is_some-end_of : (ends : List (ℕ × Interval)) (i : ℕ) → is_some (end_of ends i) ≡ is_member i (keys_of ends)
+is_some-end_of [] i = refl
+is_some-end_of (e ∷ es) i = at (nat_eq i e.0) refl (is_some-end_of es i)
+  where
+    at : (b : Bool) → nat_eq i e.0 ≡ b → is_some (end_of es i) ≡ is_member i (keys_of es) → is_some (cond b (Some e.1) (end_of es i)) ≡ ((e.0 == i) || is_member i (keys_of es))
+    at true is rest = let same : (e.0 == i) ≡ true = grind (arith, is) in sym (ap (λ b. b || is_member i (keys_of es)) same)
+    at false is rest = let other : (e.0 == i) ≡ false = grind (arith, is) in rest ∙ sym (ap (λ b. b || is_member i (keys_of es)) other)
 
 -- one more item, above all others, where there is room
 pub IsEnds-push : (held : HeldEnds) (j room : ℕ) (span : Interval) → IsEnds held → IsTrue (is_above j held.items) → span.lo ≤ span.hi → length held.items < room → room < 2 ^ 16

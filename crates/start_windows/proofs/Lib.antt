@@ -2,7 +2,7 @@ mod ByRelease
 mod ByUrgency
 mod Caps
 mod Collecting
-mod EndLists
+pub mod EndLists
 mod InOrder
 mod Passing
 mod Rows

@@ -6,11 +6,9 @@ use Rattle.std.proofs.lemmas.Bool.{cond-true, cond-false}
 use Rattle.std.proofs.lemmas.List.{append-nil, map-append, map-id}
 use Rattle.std.proofs.lemmas.List.Elements.{All-filter, All-map, All-weaker, filter-append}
 use Rattle.std.proofs.lemmas.List.FromFn.{map-range_with_len_more}
-use Rattle.job_model.specs.Numbers.{least, numbers_below}
+use Rattle.lists.specs.Numbers.{least, numbers_below}
 use Rattle.job_model.specs.Table.{Table, IsTable, predecessors}
-
-pub numbers_more : (n : ℕ) → numbers_below (n + 1) ≡ numbers_below n ++ n ∷ []
-numbers_more n = sym (map-id (numbers_below (n + 1))) ∙ map-range_with_len_more (λ (x : ℕ). x) 0 n n (omega arith) ∙ ap (λ l. l ++ n ∷ []) (map-id (numbers_below n))
+use Rattle.lists.proofs.Ranges.{numbers_more}
 
 -- the least with one more
 pub least_push : (xs : List ℕ) (y : ℕ) → least (xs ++ y ∷ []) ≡ Some (option_map_or (λ t. min t y) (least xs) y)

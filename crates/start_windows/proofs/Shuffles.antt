@@ -8,7 +8,7 @@ use Rattle.std.proofs.lemmas.Bool.{cond-true, cond-false, eqb-true, eq-eqb}
 use Rattle.std.proofs.lemmas.List.Elements.{All-map, recursion_from_All}
 use Rattle.std.proofs.lemmas.List.Sorted.{sum_by-IsPermutation}
 use Rattle.std.proofs.lemmas.List.Sums.{sum_by-cons}
-use Rattle.job_model.specs.Numbers.{least}
+use Rattle.lists.specs.Numbers.{least}
 use Rattle.start_windows.specs.Prospects.{IsShuffle, capped, times_in}
 use Rattle.start_windows.proofs.Caps.{capped-le, capped-least}
 

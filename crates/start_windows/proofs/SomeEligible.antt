@@ -9,7 +9,7 @@ use Rattle.std.proofs.lemmas.List.{get_or_past}
 use Rattle.std.proofs.lemmas.List.Elements.{All-get_or, filter_passes, recursion_from_All}
 use Rattle.std.proofs.lemmas.List.FromFn.{get_or-range_with_len, length-range_with_len}
 use Rattle.job_sets.specs.Subset.{is_member}
-use Rattle.job_model.specs.Numbers.{greatest, least, numbers_below}
+use Rattle.lists.specs.Numbers.{greatest, least, numbers_below}
 use Rattle.job_model.specs.Table.{Table, IsJob, IsTable, has_urgency_over, job_at, no_job, predecessors}
 use Rattle.job_model.proofs.Undispatched.{first_undispatched}
 use Rattle.job_model.proofs.UrgencyLaws.{urgent_itself, urgent-trans, urgent_one_way}

@@ -9,7 +9,7 @@ use Rattle.std.proofs.lemmas.List.Elements.{All-from_recursion, recursion_from_A
 use Rattle.std.proofs.lemmas.List.Sorted.{All-permutation, IsPermutation-map, sum_by-IsPermutation}
 use Rattle.std.proofs.lemmas.List.FromFn.{get_or-range_with_len, length-range_with_len}
 use Rattle.job_sets.specs.Subset.{is_member}
-use Rattle.job_model.specs.Numbers.{least, numbers_below}
+use Rattle.lists.specs.Numbers.{least, numbers_below}
 use Rattle.job_model.specs.Table.{Table, IsTable, job_at, has_urgency_over, predecessors}
 use Rattle.sag_time.specs.Interval.{Interval}
 use Rattle.start_windows.specs.Ends.{high_end}

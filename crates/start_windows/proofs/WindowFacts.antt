@@ -1,26 +1,29 @@
 -- What a window says, and what bounds it.
 use Rattle.std.proofs.Common.{◌≡◌, ℕ, ◌<◌, ◌≤◌, Bool, true, false, ◌&&◌, cond, List, [], ◌∷◌, length, map, min, Option, Some, None, refl, ap, arith, inl, inr}
-use Rattle.std.specs.Prelude.{nat_le, nat_lt, nat_eq, not, unwrap_or}
+use Rattle.std.specs.Prelude.{◌==◌, nat_le, nat_lt, nat_eq, not, unwrap_or}
 use Rattle.std.specs.List.{list_all}
 use Rattle.std.specs.Map.{lookup}
 use Rattle.std.specs.Option.{option_map_or}
-use Rattle.std.proofs.lemmas.Bool.{and_parts, leb-true, ltb-true, cases_lt, not-true}
+use Rattle.std.proofs.lemmas.Bool.{or_cases, eqb-true, false≢true, and_parts, leb-true, ltb-true, cases_lt, not-true}
 use Rattle.std.proofs.lemmas.List.{get_or_past}
 use Rattle.std.proofs.lemmas.List.Elements.{All-get_or}
 use Rattle.job_sets.specs.Subset.{is_member}
-use Rattle.job_model.specs.declared.TheConstants.{MOST_ARRIVAL}
-use Rattle.job_model.specs.Numbers.{greatest, least}
+use Rattle.job_model.specs.declared.limits.TheConstants.{MOST_ARRIVAL}
+use Rattle.lists.specs.Numbers.{greatest, least}
 use Rattle.job_model.specs.Table.{Table, IsTable, IsJob, job_at, no_job, predecessors}
 use Rattle.sag_time.specs.Interval.{Interval}
 use Rattle.start_windows.specs.declared.StartWindow.{StartWindow}
-use Rattle.start_windows.specs.Ends.{high_end}
-use Rattle.start_windows.specs.Window.{is_candidate, candidates, latest_ready, earliest_start, certain_start, overtaken_from, is_before, last_before, start_window}
+use Rattle.start_windows.specs.Ends.{high_end, low_end}
+use Rattle.start_windows.specs.Window.{is_candidate, candidates, latest_ready, earliest_ready, earliest_start, certain_start, overtaken_from, is_before, last_before, start_window}
 
 -- ---- the parts of a window
 
 pub record IsWindow (table : Table) (set : List ℕ) (ends : List (ℕ × Interval)) (first : Interval) (j : ℕ) (window : StartWindow) : Type 0 where
   pub is_job : j < length table.jobs
   pub outside : is_member j set ≡ false
+  pub is_candidate : is_candidate table set j ≡ true
+  pub waited : list_all (λ i. is_member i set) (predecessors table j) ≡ true
+  pub after_ends : (i : ℕ) → is_member i (predecessors table j) ≡ true → low_end ends i ≤ window.est
   pub in_order : window.est ≤ window.lst
   pub certain : window.lst ≤ certain_start table set ends first
 
@@ -31,6 +34,14 @@ last_before-le (Some limit) t = omega arith
 pub le-last_before : (s t : ℕ) (limit : Option ℕ) → s ≤ t → is_before s limit ≡ true → s ≤ last_before limit t
 le-last_before s t None h e = h
 le-last_before s t (Some limit) h e = omega (arith, h, ltb-true s limit e)
+
+greatest-member : (f : ℕ → ℕ) (i : ℕ) (xs : List ℕ) → is_member i xs ≡ true → f i ≤ greatest (map f xs)
+greatest-member f i [] there = absurd (false≢true there)
+greatest-member f i (x ∷ xs) there =
+    elim (or_cases (x == i) (is_member i xs) there) [
+      | inl here ↦ let same : f x ≡ f i = ap f (eqb-true x i here) in omega (arith, same)
+      | inr later ↦ omega (arith, greatest-member f i xs later)
+    ]
 
 some_since : (b : Bool) (x y : StartWindow) → cond b (Some x) None ≡ Some y → (b ≡ true) × (x ≡ y)
 some_since true x y e = (refl, cc)
@@ -50,11 +61,15 @@ IsWindow-from table set ends first j window e =
     let is_est : est ≡ window.est = ap (λ w. w.est) found.1 in
     let is_lst : last_before limit certain ≡ window.lst = ap (λ w. w.lst) found.1 in
     let sooner : est ≤ certain = leb-true est certain one.1 in
+    let ready : earliest_ready table ends j ≤ est = omega arith in
     let order : est ≤ last_before limit certain = le-last_before est certain limit sooner two.1 in
     let late : last_before limit certain ≤ certain = last_before-le limit certain in
     record {
       is_job = ltb-true j (length table.jobs) own.0;
       outside = not-true (is_member j set) own.1;
+      is_candidate = one.0;
+      waited = parts.1;
+      after_ends = λ i there. omega (arith, greatest-member (low_end ends) i (predecessors table j) there, ready, is_est);
       in_order = omega (arith, is_est, is_lst, order);
       certain = omega (arith, is_lst, late);
     }

@@ -6,7 +6,7 @@ use Rattle.std.specs.Prelude.{◌≡◌, ◌<◌, ◌≤◌, ℕ, Bool, false, L
 use Rattle.std.specs.List.{filter_map}
 use Rattle.std.specs.Option.{option_map}
 use Rattle.job_sets.specs.Subset.{is_member}
-use Rattle.job_model.specs.Numbers.{least, numbers_below}
+use Rattle.lists.specs.Numbers.{least, numbers_below}
 use Rattle.job_model.specs.Table.{Table, job_at}
 use Rattle.sag_time.specs.Interval.{Interval}
 use Rattle.start_windows.specs.declared.StartWindow.{StartWindow}

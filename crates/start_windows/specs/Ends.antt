@@ -16,9 +16,11 @@ use Rattle.sag_time.specs.Interval.{Interval}
 abbrev pub end_of : List (ℕ × Interval) → ℕ → Option Interval
 end_of ends j = lookup (nat_eq j) ends
 
+-- when job j finishes at the earliest, or 0 where it is not listed
 abbrev pub low_end : List (ℕ × Interval) → ℕ → ℕ
 low_end ends j = option_map_or (λ s. s.lo) (end_of ends j) 0
 
+-- when job j finishes at the latest, or 0 where it is not listed
 abbrev pub high_end : List (ℕ × Interval) → ℕ → ℕ
 high_end ends j = option_map_or (λ s. s.hi) (end_of ends j) 0
 

@@ -14,7 +14,7 @@ use Rattle.std.specs.Prelude.{◌≡◌, ◌≤◌, ◌<◌, ℕ, suc, Bool, Lis
 use Rattle.std.specs.List.{count_by, sum_by}
 use Rattle.std.specs.Option.{option_map}
 use Rattle.job_sets.specs.Subset.{is_rising}
-use Rattle.job_model.specs.Numbers.{least}
+use Rattle.lists.specs.Numbers.{least}
 use Rattle.job_model.specs.Ranks.{rank_of}
 use Rattle.job_model.specs.Table.{Table, job_at, has_urgency_over, predecessors}
 use Rattle.sag_time.specs.Interval.{Interval}
@@ -55,6 +55,7 @@ prospect_of table ends j = record { job = j; rank = rank_of table j; earliest = 
 abbrev pub AreProspects : Table → List (ℕ × Interval) → List Prospect → Type 0
 AreProspects table ends found = All (λ c. (c ≡ prospect_of table ends c.job) × (c.job < length table.jobs)) found
 
+-- their numbers
 abbrev pub jobs_of : List Prospect → List ℕ
 jobs_of found = map (λ c. c.job) found
 

@@ -1,5 +1,7 @@
 -- When a job may start next. `set` has the dispatched jobs, `ends` the finish times of those that others wait for,
--- and `first` the moments from which a core is possibly and from which one is certainly free.
+-- and `first` the moments from which a core is possibly and from which one is certainly free. As the eligibility condition of
+-- Nasri, Nelissen and Brandenburg (ECRTS 2018 and 2019; on one core Nasri and Brandenburg, RTSS 2017): EST, LST, t_wc and t_high.
+-- What differs: a more urgent job that shares predecessors with j counts as ready once those that are its own have finished.
 --     is_candidate table set j             j is not dispatched, and all its predecessors are
 --     candidates table set                 the candidates, in rising order
 --     earliest_ready, latest_ready         when j is ready at the earliest, and at the latest
@@ -10,7 +12,7 @@
 use Rattle.std.specs.Prelude.{ℕ, Bool, true, List, ◌∷◌, ◌-◌, ◌&&◌, min, max, not, nat_lt, nat_le, length, map, filter, Option, Some, None, unwrap_or, if◌then◌else◌}
 use Rattle.std.specs.List.{list_all}
 use Rattle.job_sets.specs.Subset.{is_member}
-use Rattle.job_model.specs.Numbers.{greatest, least, numbers_below}
+use Rattle.lists.specs.Numbers.{greatest, least, numbers_below}
 use Rattle.job_model.specs.Table.{Table, job_at, predecessors, has_urgency_over}
 use Rattle.sag_time.specs.Interval.{Interval}
 use Rattle.start_windows.specs.declared.StartWindow.{StartWindow}
@@ -20,6 +22,7 @@ use Rattle.start_windows.specs.Ends.{low_end, high_end}
 abbrev pub is_candidate : Table → List ℕ → ℕ → Bool
 is_candidate table set j = nat_lt j (length table.jobs) && not (is_member j set) && list_all (λ i. is_member i set) (predecessors table j)
 
+-- all of them, by rising number
 abbrev pub candidates : Table → List ℕ → List ℕ
 candidates table set = filter (is_candidate table set) (numbers_below (length table.jobs))
 

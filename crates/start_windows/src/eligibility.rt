@@ -1,4 +1,4 @@
-// Which jobs may be the next to start.
+//! Which jobs may be the next to start.
 
 ghost use Rattle.std.specs.Prelude.{◌≡◌, ◌<◌, ◌↔◌, ◌++◌, [], suc, IfOk, IsSomeAnd, IsTrue, OnOk, filter, length, map, max};
 ghost use Rattle.std.specs.List.{cons_option, filter_map};

@@ -1,8 +1,8 @@
-// When jobs finish.
+//! When jobs finish.
 
-ghost use Rattle.std.specs.Prelude.{◌≡◌, ◌++◌, ◌<◌, [], ◌∷◌, IfOk, IsTrue, OnErr, Some, if◌then◌else◌, length, slice_get, slice_index, slice_set};
+ghost use Rattle.std.specs.Prelude.{◌≡◌, ◌++◌, ◌<◌, [], ◌∷◌, IfNone, IfOk, IfSome, IsTrue, OnErr, Some, false, if◌then◌else◌, length, slice_get, slice_index, slice_set};
 ghost use Rattle.std.specs.Map.{keys_of};
-ghost use Rattle.job_sets.specs.Subset.{is_rising};
+ghost use Rattle.job_sets.specs.Subset.{is_member, is_rising};
 ghost use Rattle.start_windows.specs.Ends.{IsEnds, end_of, is_above, with_end};
 
 use job_sets::JobNo;
@@ -86,6 +86,19 @@ impl Ends {
             .binary_search_by_key(&job.0, |(no, _)| no.0)
             .ok()?;
         Some(self.items[place].1)
+    }
+
+    /// The place of the job's item, counted from 0, if it is listed.
+    pub fn place_of(&self, job: JobNo) -> Option<u16>
+        ensures place { IfSome result (λ place. slice_get (keys_of self.now.items) place ≡ Some job) }
+        ensures missing { IfNone result (is_member job (keys_of self.now.items) ≡ false) }
+        ensures ends { IsEnds self.now }
+    {
+        let place = self
+            .items
+            .binary_search_by_key(&job.0, |(no, _)| no.0)
+            .ok()?;
+        Some(place as u16)
     }
 
     /// The item at that place, counted from 0.

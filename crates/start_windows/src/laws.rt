@@ -1,4 +1,4 @@
-// Laws of windows.
+//! Laws of windows.
 
 ghost use Rattle.start_windows.specs.Laws.{SomeJobIsEligible};
 

@@ -1,3 +1,5 @@
+//! Worked states, and lists of ends.
+
 ghost use Rattle.std.specs.Prelude.{◌≡◌, ◌<◌, IfOk, length};
 ghost use Rattle.job_model.specs.Neighbours.{JoinJobs};
 
@@ -193,6 +195,10 @@ fn keeps_ends_by_rising_number(rt: HostRuntime) -> Result<(), Fail> {
     assert!(rt; takes(&mut ends, 7, late)?);
     assert!(rt; ends.get(JobNo(3)) == Some(early));
     assert!(rt; ends.get(JobNo(5)).is_none());
+    assert_eq!(rt;
+        (ends.place_of(JobNo(7)), ends.place_of(JobNo(5))),
+        (Some(1), None)
+    );
     assert_eq!(rt; ends.room(), 2);
     assert_eq!(rt; ends.len(), 2);
     assert!(rt; ends.at(1) == (JobNo(7), late));
@@ -210,126 +216,5 @@ fn puts_ends_into_their_room(rt: HostRuntime) -> Result<(), Fail> {
     ends.clear();
     assert_eq!(rt; ends.len(), 0);
     assert_eq!(rt; ends.room(), 1);
-    Ok(())
-}
-
-// Numbers that look random.
-#[derive(Drop)]
-struct Numbers(u64);
-
-impl Numbers {
-    fn below(&mut self, limit: u64) -> u64
-        requires { 0 < limit }
-        ensures { result < limit }
-    {
-        self.0 = self
-            .0
-            .wrapping_mul(6_364_136_223_846_793_005)
-            .wrapping_add(1_442_695_040_888_963_407);
-        (self.0 >> 33) % limit
-    }
-}
-
-// A table of so many jobs, of few priorities, released up to `latest` and a little later. Some wait
-// for one of the jobs up to `before`.
-fn generated(
-    alloc: Global,
-    numbers: &mut Numbers,
-    count: u16,
-    latest: u16,
-    before: u16,
-) -> Result<JobTable, Fail> {
-    let mut rows = Vec::new(alloc);
-    let mut edges = Vec::new(alloc);
-    for no in 0..count {
-        let rmin = numbers.below(u64::from(latest) + 1);
-        let rmax = rmin + numbers.below(u64::from(latest) / 4 + 1);
-        let cmin = 1 + numbers.below(4);
-        let cmax = cmin + numbers.below(4);
-        rows.push(job(u64::from(no), (rmin, rmax), (cmin, cmax), numbers.below(4)))?;
-        let earlier = numbers.below(u64::from(before) + 1);
-        if earlier < u64::from(no) {
-            edges.push((earlier as u16, no))?;
-        }
-    }
-    table_of(alloc, &rows, &edges)
-}
-
-// When those jobs finish that are dispatched.
-fn ends_from(alloc: Global, finishes: &[Option<Span>]) -> Result<Ends, Fail> {
-    let mut ends = Ends::new(alloc);
-    for (no, finish) in finishes.iter().enumerate() {
-        if let Some(span) = finish
-            && no < 99
-            && ends.len() < 99
-        {
-            ends.push(JobNo(no as u16), *span)?;
-        }
-    }
-    Ok(ends)
-}
-
-// One of the jobs that may be the next to start, by both ways.
-fn next_job(
-    alloc: Global,
-    numbers: &mut Numbers,
-    table: &JobTable,
-    set: &JobSet,
-    finishes: &[Option<Span>],
-    first: Span,
-) -> Result<(JobNo, StartWindow), Fail>
-    requires { set.now.size ≡ length table.now.jobs }
-{
-    let ends = ends_from(alloc, finishes)?;
-    let eligible = both_ways(alloc, table, set, &ends, first)?;
-    if eligible.is_empty() {
-        return Err("some job is eligible")?;
-    }
-    let choice = numbers.below(eligible.len() as u64);
-    Ok(eligible[choice as usize])
-}
-
-// When the job finishes that starts in the window.
-fn finish_of(job: &Job, window: StartWindow) -> Result<Span, Fail> {
-    let lo = window.est.saturating_add(job.cmin);
-    let hi = window.lst.saturating_add(job.cmax);
-    Ok(Span::new(lo, hi).ok_or("in order")?)
-}
-
-// Dispatches all jobs on one core, one eligible job after the other.
-fn dispatched(alloc: Global, numbers: &mut Numbers, table: &JobTable) -> Result<u16, Fail> {
-    let mut set = set_of(alloc, table, &[])?;
-    let mut finishes: Vec<Option<Span>> = vec![in alloc; None; usize::from(table.len())]?;
-    let mut first = Span::new(0, 0).ok_or("in order")?;
-    for _ in 0..table.len() {
-        let (no, window) = next_job(alloc, numbers, table, &set, &finishes, first)?;
-        if no.0 >= table.len() {
-            return Err("it is a job of the table")?;
-        }
-        first = finish_of(table.job(no), window)?;
-        if let Some(finish) = finishes.get_mut(usize::from(no.0)) {
-            *finish = Some(first);
-        }
-        set.add(no);
-    }
-    Ok(set.count())
-}
-
-#[test]
-fn finds_the_same_job_by_job(rt: HostRuntime) -> Result<(), Fail> {
-    let alloc = rt.alloc();
-    let mut numbers = Numbers(1);
-    // of the last two tables many are near at once, and predecessors hold several up
-    let tables = [
-        (1, 29, 29),
-        (8, 29, 29),
-        (24, 29, 29),
-        (24, 3, 5),
-        (24, 8, 11),
-    ];
-    for (count, latest, before) in tables {
-        let table = generated(alloc, &mut numbers, count, latest, before)?;
-        assert_eq!(rt; dispatched(alloc, &mut numbers, &table)?, count);
-    }
     Ok(())
 }

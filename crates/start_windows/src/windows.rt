@@ -1,4 +1,4 @@
-// When a job may start next.
+//! When a job may start next.
 
 ghost use Rattle.std.specs.Prelude.{◌≡◌, ◌<◌, length, max, min};
 ghost use Rattle.std.specs.Option.{option_map_or};

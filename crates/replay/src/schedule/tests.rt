@@ -1,5 +1,5 @@
 ghost use Rattle.std.specs.Prelude.{◌≤◌};
-ghost use Rattle.job_model.specs.declared.TheConstants.{MOST_CORES};
+ghost use Rattle.job_model.specs.declared.limits.TheConstants.{MOST_CORES};
 
 use crate::{replay, write_schedule};
 use job_model::{Job, JobTable, Scenario};

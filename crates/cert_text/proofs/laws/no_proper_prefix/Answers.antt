@@ -1,4 +1,4 @@
-use Rattle.cert_text.proofs.Texts.{no_proper_prefix}
+use Rattle.cert_text.proofs.ReadableRuns.{no_proper_prefix}
 use Rattle.cert_text.proofs.laws.no_proper_prefix.Goals as goal
 
 pub returns : goal.returns

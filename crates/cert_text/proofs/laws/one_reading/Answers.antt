@@ -1,4 +1,4 @@
-use Rattle.cert_text.proofs.Texts.{one_reading}
+use Rattle.cert_text.proofs.ReadableRuns.{one_reading}
 use Rattle.cert_text.proofs.laws.one_reading.Goals as goal
 
 pub returns : goal.returns

@@ -1,4 +1,4 @@
-use Rattle.cert_text.proofs.Decode.{spelled_lines}
+use Rattle.cert_text.proofs.SpelledLines.{spelled_lines}
 use Rattle.cert_text.proofs.laws.spelled_lines.Goals as goal
 
 pub returns : goal.returns

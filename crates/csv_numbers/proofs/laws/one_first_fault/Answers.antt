@@ -1,5 +1,5 @@
-use Rattle.csv_numbers.proofs.FirstFaults.{one-fault}
+use Rattle.csv_numbers.proofs.OneFirstFault.{one_first_fault}
 use Rattle.csv_numbers.proofs.laws.one_first_fault.Goals as goal
 
 pub returns : goal.returns
-returns c = one-fault
+returns c = one_first_fault

@@ -1,4 +1,4 @@
-use Rattle.graph_check.proofs.AllRuns as law
+use Rattle.graph_check.proofs.Soundness as law
 use Rattle.graph_check.proofs.laws.a_yes_is_sound.Goals as goal
 
 pub returns : goal.returns

@@ -1,5 +1,5 @@
-use Rattle.job_csv.proofs.JobLemmas.{one-jobs}
+use Rattle.job_csv.proofs.OneJobList.{one_job_list}
 use Rattle.job_csv.proofs.laws.one_job_list.Goals as goal
 
 pub returns : goal.returns
-returns c = one-jobs
+returns c = one_job_list c.rows_agree.ensures

@@ -1,6 +1,6 @@
 use Rattle.std.proofs.Common.{◌≡◌, ◌∙◌, List, ℕ, ap, arith, map}
 use Rattle.std.proofs.lemmas.List.{take_all}
-use Rattle.job_csv.specs.Jobs.{job_columns}
+use Rattle.job_model.specs.JobRow.{job_columns}
 use Rattle.job_csv.proofs.write.write_jobs.Goals as goal
 
 pub returns-clause-text : goal.returns-clause-text

@@ -1,5 +1,5 @@
 use Rattle.std.proofs.Common.{◌≡◌, map, take}
-use Rattle.job_csv.specs.Jobs.{job_columns}
+use Rattle.job_model.specs.JobRow.{job_columns}
 use Rattle.job_csv.proofs.write.write_jobs.Given as goal
 
 -- the rows of the jobs so far

@@ -1,5 +1,5 @@
 use Rattle.std.proofs.Common.{◌≡◌, map}
-use Rattle.job_model.specs.Numbers.{numbers_below}
+use Rattle.lists.specs.Numbers.{numbers_below}
 use Rattle.run_meaning.specs.Dispatches.{dispatch_of}
 use Rattle.run_meaning.proofs.order.dispatches.Given as goal
 

@@ -6,7 +6,7 @@ pub loop-room-init : goal.loop-room-init
 loop-room-init g c = record {
   read = rw c.new-list.ensures.items (begins _ _ _ c.begin.ensures.contents c.begin.ensures.cause.later c.in-Ok.ensures.ok);
   left = omega (arith, c.new-list.ensures.len);
-  piece = c.in-Ok-zeros.ensures;
+  piece = c.in_ok-piece.ensures;
 }
 
 pub returns-clause-too_long : goal.returns-clause-too_long

@@ -1,5 +1,5 @@
 use Rattle.std.proofs.Common.{◌≡◌, ◌++◌, ◌≤◌, ℕ, List, length}
-use Rattle.sag_edge.specs.Writing.{Takes, StillTells}
+use Rattle.sag_edge.specs.Writing.{GrowsBy, StillTells}
 use Rattle.sag_edge.proofs.writing.write_whole.Given as goal
 
 abbrev pub invariant-loop-rest : goal.invariant-loop-rest
@@ -8,7 +8,7 @@ invariant-loop-rest g l =
     record {
       later : (seen l.fn.sink).faults ≤ (seen l.sink).faults;
       tells : StillTells (seen l.fn.sink) (seen l.sink) l.bytes;
-      written : (done : List ℕ) × (l.bytes ≡ done ++ l.rest) × Takes (seen l.fn.sink).taken (seen l.sink).taken done;
+      written : (done : List ℕ) × (l.bytes ≡ done ++ l.rest) × GrowsBy (seen l.fn.sink).taken (seen l.sink).taken done;
     }
 
 abbrev pub decreases-loop-rest : goal.decreases-loop-rest

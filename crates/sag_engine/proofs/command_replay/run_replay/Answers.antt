@@ -3,7 +3,7 @@ use Rattle.std.proofs.lemmas.Result.{err_from_is_err_and}
 use Rattle.sag_engine.specs.Work.Work.{Replays}
 use Rattle.sag_engine.proofs.PlanLemmas.{follows_then, follows_halt, follows_pure}
 use Rattle.sag_engine.proofs.InputLemmas.{accepted_fits}
-use Rattle.sag_engine.proofs.PrintLemmas.{runs_then, runs_halt}
+use Rattle.sag_engine.proofs.PrintLemmas.{runs_then, runs_halt, runs_memory}
 use Rattle.sag_engine.proofs.command_replay.run_replay.Goals as goal
 
 pub returns-in_err-table : goal.returns-in_err-table
@@ -28,3 +28,7 @@ returns-in-Ok g c = runs_then _ (Replays c.in_ok-table.table c.args.cores c.in_o
     (follows_then _ _ _ _ c.in_ok-table.ensures (follows_then _ _ _ _ c.in_ok-scenario.ensures (follows_pure _ _ _ _ refl)))
     c.in-Ok.ensures
     (rw c.deref.ensures.value at c.print.ensures)
+
+pub returns : goal.returns
+returns g c = runs_memory _ (Replays c.in_ok-table.table c.args.cores c.in_ok-scenario.scenario)
+    (follows_then _ _ _ _ c.in_ok-table.ensures (follows_then _ _ _ _ c.in_ok-scenario.ensures (follows_pure _ _ _ _ refl)))

@@ -1,5 +1,6 @@
 use Rattle.sag_engine.specs.Promises.{texts}
-use Rattle.sag_engine.proofs.RunLemmas.{answers_by, runs_by, finished_by, read_cause_by, none_on_read_fault_by, write_cause_by, prefix_by, text_by, fault_text_by}
+use Rattle.sag_engine.proofs.ReplayLemmas.{runs_by}
+use Rattle.sag_engine.proofs.RunLemmas.{answers_by, contents_by, fault_text_by, finished_by, later_by, none_on_read_fault_by, prefix_by, read_cause_by, tells_by, text_by, write_cause_by}
 use Rattle.sag_engine.proofs.run.sag_run.Goals as goal
 
 pub returns : goal.returns
@@ -8,7 +9,7 @@ returns g c =
     let works = c.work-end.ensures in
     rw c.status_of.ensures (record {
       answer = answers_by words works;
-      runs = runs_by words works;
+      runs = runs_by c.one_command.ensures c.one_run.ensures c.starts_agree.ensures words works;
       finished = finished_by words works;
       read_fault = read_cause_by words works;
       none_on_read_fault = none_on_read_fault_by words works;
@@ -16,4 +17,7 @@ returns g c =
       prefix = prefix_by words works;
       text = text_by words works c.explain.ensures;
       fault_text = fault_text_by words works c.explain.ensures;
+      contents = contents_by words works;
+      later = later_by words works c.explain.ensures;
+      tells = tells_by words works;
     })

@@ -1,5 +1,5 @@
 use Rattle.sag_engine.specs.Promises.{texts}
-use Rattle.sag_engine.proofs.RunLemmas.{asked_cores}
+use Rattle.sag_engine.proofs.CommandLemmas.{asked_cores}
 use Rattle.sag_engine.proofs.run.work.Goals as goal
 
 pub run_command-requires : goal.run_command-requires

@@ -1,6 +1,7 @@
 use Rattle.std.proofs.Common.{◌∙◌, ◌++◌, ◌+◌, ap, sym, drop}
 use Rattle.start_windows.specs.Ends.{HeldEnds}
-use Rattle.sag_step.proofs.ListsOfEnds.{drop_next, is_above-next, whole_next}
+use Rattle.sag_step.proofs.ListsOfEnds.{is_above-next, whole_next}
+use Rattle.lists.proofs.Elements.{drop_next}
 use Rattle.sag_step.proofs.ends.copy_ends.Goals as goal
 
 pub put-requires-clause-above : goal.put-requires-clause-above

@@ -2,7 +2,7 @@ use Rattle.std.proofs.Common.{◌≡◌, ◌∙◌, ◌++◌, ◌+◌, ◌<◌, 
 use Rattle.std.specs.Map.{keys_of}
 use Rattle.std.proofs.lemmas.List.{length-set, drop-set-lt}
 use Rattle.sag_time.specs.Interval.{Interval}
-use Rattle.sag_time.specs.Sorted.{zip_with}
+use Rattle.lists.specs.Zipped.{zip_with}
 use Rattle.start_windows.specs.Ends.{HeldEnds}
 use Rattle.sag_step.specs.Widen.{end_hull}
 use Rattle.sag_step.proofs.ListsOfEnds.{key_at, same_rest, widened_next}

@@ -1,6 +1,6 @@
 use Rattle.std.proofs.Common.{◌≡◌, ◌++◌, take, drop, length}
 use Rattle.std.specs.Map.{keys_of}
-use Rattle.sag_time.specs.Sorted.{zip_with}
+use Rattle.lists.specs.Zipped.{zip_with}
 use Rattle.sag_step.specs.Widen.{end_hull}
 use Rattle.sag_step.proofs.ends.widen_ends.Given as goal
 

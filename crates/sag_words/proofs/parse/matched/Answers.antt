@@ -1,7 +1,7 @@
 use Rattle.std.proofs.Common.{◌∙◌, ap, ap₂, arith, map, string_bytes, sym}
 use Rattle.std.proofs.lemmas.List.{take_all}
 use Rattle.clap.specs.Words.{fault_of, is_simple_and_free, matches_of, with_rule}
-use Rattle.sag_words.specs.Apps.{Takes, app_with, argument_rule}
+use Rattle.sag_words.specs.Apps.{IsInGrammar, app_with, argument_rule}
 use Rattle.sag_words.proofs.AppLemmas.{faulty, left_of_and, rules-take_more}
 use Rattle.sag_words.proofs.parse.matched.Goals as goal
 
@@ -12,7 +12,7 @@ loop-argument-preserved c =
     ∙ ap (app_with c.args.name.now) (sym more)
 
 pub returns-in-Ok-clause-takes : goal.returns-in-Ok-clause-takes
-unfolding Takes
+unfolding IsInGrammar
 returns-in-Ok-clause-takes c =
     let whole = take_all c.loop-argument.argument-index c.args.arguments.now (omega arith) in
     let app = c.loop-argument.invariant ∙ ap (λ arguments. app_with c.args.name.now (map argument_rule arguments)) whole in
@@ -26,7 +26,7 @@ returns-in-Ok-clause-reads c =
     (c.in-Ok.ensures.matches simple).0 ∙ ap (λ a. matches_of a (map string_bytes c.args.words.now)) app
 
 pub returns-clause-usage : goal.returns-clause-usage
-unfolding Takes
+unfolding IsInGrammar
 returns-clause-usage c u taken =
     let whole = take_all c.loop-argument.argument-index c.args.arguments.now (omega arith) in
     let app = c.loop-argument.invariant ∙ ap (λ arguments. app_with c.args.name.now (map argument_rule arguments)) whole in

@@ -1,5 +1,5 @@
 use Rattle.std.proofs.Common.{◌≡◌, ◌∙◌, ◌<◌, [], true, length, take, get_or, sym, arith, rules}
-use Rattle.std.proofs.lemmas.List.{get_or_default, take_all, take_more}
+use Rattle.std.proofs.lemmas.List.{take_all, take_more}
 use Rattle.std.proofs.lemmas.Result.{err_from_is_err_and}
 use Rattle.std.proofs.lemmas.Slice.Zip.{all_zipped_more}
 use Rattle.std.specs.Result.{is_ok}
@@ -12,16 +12,16 @@ returns-in_err-edge-clause-fault c =
     let p = err_from_is_err_and c.from_residual.result c.from_residual.ensures.1 in
     let rows = c.args.rows.now in
     let i = c.loop-i.i in
-    let below : i < length rows = c.loop-i-test.true in
-    let row_is : c.as_slice.result.now ≡ get_or rows i [] = c.as_slice.ensures ∙ c.index-rows-i.is ∙ get_or_default rows i c.index-rows-i.result [] below in
+    let below : i < length rows = omega (arith, c.loop-i-test.true, c.len-i-end.ensures) in
+    let row_is : c.row.result.now ≡ get_or rows i [] = c.row.ensures in
     rw (p.1, p.2) (λ bytes reads. c.in_err-edge.ensures.fault bytes (reached-edge c.args.table.now bytes rows i c.loop-i.edges.items below reads c.loop-i.invariant.named) (sym row_is))
 
 pub loop-i-preserved : goal.loop-i-preserved
 loop-i-preserved c =
     let rows = c.args.rows.now in
     let i = c.loop-i.i in
-    let below : i < length rows = c.loop-i-test.true in
-    let row_is : c.as_slice.result.now ≡ get_or rows i [] = c.as_slice.ensures ∙ c.index-rows-i.is ∙ get_or_default rows i c.index-rows-i.result [] below in
+    let below : i < length rows = omega (arith, c.loop-i-test.true, c.len-i-end.ensures) in
+    let row_is : c.row.result.now ≡ get_or rows i [] = c.row.ensures in
     let good : is_ok c.push.result ≡ true = search rules in
     let items = rw good at c.push.ensures.items in
     let names = rw row_is at c.in_ok-edge.ensures.names in

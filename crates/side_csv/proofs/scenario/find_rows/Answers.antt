@@ -1,5 +1,5 @@
 use Rattle.std.proofs.Common.{◌≡◌, ◌∙◌, ◌<◌, Some, length, take, get_or, set, sym, subst, arith, ◌++◌, ◌∷◌, []}
-use Rattle.std.proofs.lemmas.List.{get_or_default, length-take-le, take_more}
+use Rattle.std.proofs.lemmas.List.{length-take-le, take_more}
 use Rattle.std.proofs.lemmas.Result.{err_from_is_err_and}
 use Rattle.side_csv.specs.Places.{Places}
 use Rattle.side_csv.proofs.RowLemmas.{KeepRules-push, Places-push, place-none}
@@ -11,8 +11,8 @@ returns-in_err-no-clause-fault c =
     let p = err_from_is_err_and c.from_residual.result c.from_residual.ensures.1 in
     let rows = c.args.rows.now in
     let i = c.loop-i.i in
-    let below : i < length rows = c.loop-i-test.true in
-    let row_is : c.as_slice.result.now ≡ get_or rows i [] = c.as_slice.ensures ∙ c.index-rows-i.is ∙ get_or_default rows i c.index-rows-i.result [] below in
+    let below : i < length rows = omega (arith, c.loop-i-test.true, c.len-i-end.ensures) in
+    let row_is : c.row.result.now ≡ get_or rows i [] = c.row.ensures in
     rw (p.1, p.2) (λ bytes reads. c.in_err-no.ensures.fault bytes (reached c.args.table.now bytes rows i below reads c.loop-i.invariant.kept) (sym row_is) (rw c.deref.ensures.value c.loop-i.invariant.places))
 
 pub loop-i-preserved : goal.loop-i-preserved
@@ -22,8 +22,8 @@ loop-i-preserved c =
     let i = c.loop-i.i in
     let no = c.in_ok-no.no in
     let places = c.loop-i.places.items in
-    let below : i < length rows = c.loop-i-test.true in
-    let row_is : c.as_slice.result.now ≡ get_or rows i [] = c.as_slice.ensures ∙ c.index-rows-i.is ∙ get_or_default rows i c.index-rows-i.result [] below in
+    let below : i < length rows = omega (arith, c.loop-i-test.true, c.len-i-end.ensures) in
+    let row_is : c.row.result.now ≡ get_or rows i [] = c.row.ensures in
     let says = rw (row_is, c.deref.ensures.value) at c.in_ok-no.ensures in
     let before = take i rows in
     let row = get_or rows i [] in

@@ -1,7 +1,7 @@
 use Rattle.std.proofs.Common.{ap}
 use Rattle.std.proofs.lemmas.Result.{err_from_is_err_and}
 use Rattle.side_csv.specs.ScenarioFaults.{side_fault_of}
-use Rattle.side_csv.proofs.ScenarioLemmas.{first-csv, fits-given, no-scenario, one-scenario}
+use Rattle.side_csv.proofs.ScenarioLemmas.{first-csv, fits-given}
 use Rattle.side_csv.proofs.scenario.read_scenario.Goals as goal
 
 pub returns-in_err-rows-clause-fault : goal.returns-in_err-rows-clause-fault
@@ -17,32 +17,32 @@ returns-in_err-rows-clause-refused c =
 pub returns-in_err-places-clause-refused : goal.returns-in_err-places-clause-refused
 returns-in_err-places-clause-refused c =
     let p = err_from_is_err_and c.from_residual-in_err-places.result c.from_residual-in_err-places.ensures.1 in
-    let first = c.in_err-places.ensures.fault c.args.bytes.now (rw c.deref.ensures.value c.in_ok-rows.ensures.rows) in
-    rw (p.1, p.2) (λ other s text. no-scenario c.args.table.now c.in_err-places.ensures.table c.args.bytes.now c.in_err-places.field-0.0 other first s text)
+    let first = c.in_err-places.ensures.fault c.args.bytes.now c.in_ok-rows.ensures.rows in
+    rw (p.1, p.2) (λ other s text. c.scenarios_keep_rules.ensures c.args.table.now c.args.bytes.now s c.in_err-places.ensures.table text c.in_err-places.field-0.0 other first)
 
 pub returns-in_err-values-clause-refused : goal.returns-in_err-values-clause-refused
 returns-in_err-values-clause-refused c =
     let p = err_from_is_err_and c.from_residual-in_err-values.result c.from_residual-in_err-values.ensures.1 in
-    let kept = rw c.deref.ensures.value at c.in_ok-places.ensures.kept in
-    let first = c.in_err-values.ensures.fault c.args.bytes.now (rw c.deref-2.ensures.value c.in_ok-rows.ensures.rows) (rw c.deref-2.ensures.value kept) in
-    rw (p.1, p.2) (λ other s text. no-scenario c.args.table.now c.in_ok-places.ensures.table c.args.bytes.now c.in_err-values.field-0.0 other first s text)
+    let kept = c.in_ok-places.ensures.kept in
+    let first = c.in_err-values.ensures.fault c.args.bytes.now c.in_ok-rows.ensures.rows kept in
+    rw (p.1, p.2) (λ other s text. c.scenarios_keep_rules.ensures c.args.table.now c.args.bytes.now s c.in_ok-places.ensures.table text c.in_err-values.field-0.0 other first)
 
 pub unreachable-requires : goal.unreachable-requires
 unreachable-requires c =
-    let kept = rw c.deref.ensures.value at c.in_ok-places.ensures.kept in
-    let given = rw c.deref-2.ensures.value at c.in_ok-values.ensures.given in
-    let fits = fits-given c.args.table.now c.in_ok-places.ensures.table c.in_ok-rows.rows.items c.in_ok-values.values.items kept c.in_ok-values.ensures.one_each given in
+    let kept = c.in_ok-places.ensures.kept in
+    let given = c.in_ok-values.ensures.given in
+    let fits = fits-given c.args.table.now c.in_ok-places.ensures.table c.in_ok-rows.rows c.in_ok-values.values.items kept c.in_ok-values.ensures.one_each given in
     let none = c.in-None.ensures.fits.1 fits in cc
 
 pub returns-clause-text : goal.returns-clause-text
 returns-clause-text c =
     rw c.in-Some.ensures.rows (record {
-      rows = c.in_ok-rows.rows.items;
+      rows = c.in_ok-rows.rows;
       rows_are = c.in_ok-rows.ensures.rows;
-      kept = rw c.deref.ensures.value at c.in_ok-places.ensures.kept;
+      kept = c.in_ok-places.ensures.kept;
       one_each = c.in_ok-values.ensures.one_each;
-      given = rw c.deref-2.ensures.value at c.in_ok-values.ensures.given;
+      given = c.in_ok-values.ensures.given;
     })
 
 pub returns-clause-only : goal.returns-clause-only
-returns-clause-only c t text = one-scenario c.args.table.now c.args.bytes.now c.in-Some.scenario t (returns-clause-text c) text
+returns-clause-only c t text = c.one_scenario.ensures c.args.table.now c.args.bytes.now c.in-Some.scenario t (returns-clause-text c) text

@@ -1,7 +1,6 @@
 use Rattle.std.proofs.Common.{◌≡◌, ◌∙◌, ◌<◌, ◌+◌, ◌∷◌, [], None, Some, true, length, get_or, ap, arith, rules, length-append}
-use Rattle.std.proofs.lemmas.List.{get_or_default}
 use Rattle.std.specs.Result.{is_ok}
-use Rattle.side_csv.specs.ScenarioText.{Names, cost_in, release_in}
+use Rattle.side_csv.specs.ScenarioText.{NamesJob, cost_in, release_in}
 use Rattle.side_csv.proofs.RowLemmas.{place-none, place-some}
 use Rattle.side_csv.proofs.ScenarioLemmas.{Given-push, given-contained}
 use Rattle.side_csv.proofs.scenario.values_of_jobs.Goals as goal
@@ -29,10 +28,10 @@ loop-j-preserved c =
     let below : j < length table.jobs = omega (arith, c.loop-j-test.true, c.len-j-end.ensures.count) in
     let some : get_or c.args.places.now c.from.result None ≡ Some place = c.in-Some.is in
     let at = place-some table rows c.args.places.now j place c.requires.places below (rw c.from.ensures at some) in
-    let row_is : c.as_slice-row.result.now ≡ get_or rows place [] = c.as_slice-row.ensures ∙ c.index-rows-place.is ∙ get_or_default rows place c.index-rows-place.result [] at.0 in
+    let row_is : c.row-row.result.now ≡ get_or rows place [] = c.row-row.ensures in
     let good : is_ok c.push.result ≡ true = search rules in
     let items = rw (good, row_is) at c.push.ensures.items in
-    let names : Names table (get_or rows place []) j = record { is_job = below; ids_are = at.1 } in
+    let names : NamesJob table (get_or rows place []) j = record { is_job = below; ids_are = at.1 } in
     let given = Given-push table rows c.loop-j.values.items j place c.loop-j.invariant.count c.loop-j.invariant.given at.0 names in
     rw items (record {
       count = length-append c.loop-j.values.items ((release_in (get_or rows place []), cost_in (get_or rows place [])) ∷ []) ∙ ap (λ n. n + 1) c.loop-j.invariant.count;

@@ -2,7 +2,7 @@ use Rattle.std.proofs.Common.{◌≡◌, ◌∙◌, ap, arith, length, map, sym,
 use Rattle.std.proofs.lemmas.List.FromFn.{map-range_with_len_more}
 use Rattle.std.proofs.lemmas.Result.{IfOk-weaker}
 use Rattle.csv_numbers.specs.Rows.{Rows}
-use Rattle.job_model.specs.Numbers.{numbers_below}
+use Rattle.lists.specs.Numbers.{numbers_below}
 use Rattle.side_csv.specs.ScenarioRows.{scenario_row, scenario_rows}
 use Rattle.side_csv.specs.ScenarioText.{ScenarioText}
 use Rattle.side_csv.proofs.WriteLemmas.{scenario-given}

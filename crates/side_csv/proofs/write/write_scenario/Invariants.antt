@@ -1,5 +1,5 @@
 use Rattle.std.proofs.Common.{◌≡◌, map}
-use Rattle.job_model.specs.Numbers.{numbers_below}
+use Rattle.lists.specs.Numbers.{numbers_below}
 use Rattle.side_csv.specs.ScenarioRows.{scenario_row}
 use Rattle.side_csv.proofs.write.write_scenario.Given as goal
 

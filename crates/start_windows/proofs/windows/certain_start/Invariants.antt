@@ -1,6 +1,6 @@
 use Rattle.std.proofs.Common.{◌≡◌, map}
 use Rattle.std.specs.Prelude.{filter}
-use Rattle.job_model.specs.Numbers.{least, numbers_below}
+use Rattle.lists.specs.Numbers.{least, numbers_below}
 use Rattle.start_windows.specs.Window.{is_candidate, latest_ready}
 use Rattle.start_windows.proofs.windows.certain_start.Given as goal
 

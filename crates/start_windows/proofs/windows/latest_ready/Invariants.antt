@@ -1,5 +1,5 @@
 use Rattle.std.proofs.Common.{◌≡◌, drop, map, max}
-use Rattle.job_model.specs.Numbers.{greatest}
+use Rattle.lists.specs.Numbers.{greatest}
 use Rattle.start_windows.specs.Ends.{high_end}
 use Rattle.start_windows.specs.Window.{latest_ready}
 use Rattle.start_windows.proofs.windows.latest_ready.Given as goal

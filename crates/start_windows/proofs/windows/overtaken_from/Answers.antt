@@ -1,7 +1,7 @@
 use Rattle.std.proofs.Common.{◌≡◌, ℕ, ◌&&◌, Some, length, map, ap, sym, ◌∙◌, arith}
 use Rattle.std.specs.Prelude.{filter}
 use Rattle.std.proofs.lemmas.Bool.{and_from, and_left, and_right}
-use Rattle.job_model.specs.Numbers.{least, numbers_below}
+use Rattle.lists.specs.Numbers.{least, numbers_below}
 use Rattle.job_model.specs.Table.{has_urgency_over}
 use Rattle.start_windows.specs.Window.{is_candidate, ready_beside}
 use Rattle.start_windows.proofs.Passing.{filter-both, least-taken, least-left}

@@ -1,7 +1,7 @@
 use Rattle.std.proofs.Common.{◌≡◌, drop, map, max, not}
 use Rattle.std.specs.Prelude.{filter}
 use Rattle.job_sets.specs.Subset.{is_member}
-use Rattle.job_model.specs.Numbers.{greatest}
+use Rattle.lists.specs.Numbers.{greatest}
 use Rattle.job_model.specs.Table.{predecessors}
 use Rattle.start_windows.specs.Ends.{high_end}
 use Rattle.start_windows.specs.Window.{ready_beside}

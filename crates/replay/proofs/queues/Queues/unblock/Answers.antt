@@ -1,7 +1,7 @@
 use Rattle.std.proofs.Common.{◌≡◌, ◌<◌, length, get_or, sym, ap, ◌∙◌, arith}
 use Rattle.std.proofs.lemmas.List.Elements.{All-contains}
 use Rattle.job_model.specs.Table.{successors}
-use Rattle.replay.proofs.Lacking.{successors_below}
+use Rattle.job_model.proofs.NeighbourLemmas.{successors_below}
 use Rattle.replay.proofs.Unblocked.{lacks_next, Unblocks-next}
 use Rattle.replay.proofs.queues.Queues.unblock.Goals as goal
 

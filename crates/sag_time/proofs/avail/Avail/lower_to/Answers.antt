@@ -1,5 +1,6 @@
 use Rattle.std.proofs.Common.{◌≡◌, length, sym, ap, ◌∙◌, min, get_or, arith}
-use Rattle.sag_time.specs.Sorted.{is_sorted, zip_with}
+use Rattle.sag_time.specs.Sorted.{is_sorted}
+use Rattle.lists.specs.Zipped.{zip_with}
 use Rattle.sag_time.proofs.ZippedLists.{zipped_to, zipped_step, is_sorted-zip_min, length-zip_with, zipped_all}
 use Rattle.sag_time.proofs.WrittenBack.{kept}
 use Rattle.sag_time.proofs.avail.Avail.lower_to.Goals as goal

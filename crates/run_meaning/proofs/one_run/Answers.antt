@@ -1,5 +1,0 @@
-use Rattle.run_meaning.proofs.OneRun as law
-use Rattle.run_meaning.proofs.one_run.Goals as goal
-
-pub returns : goal.returns
-returns c = law.one_run

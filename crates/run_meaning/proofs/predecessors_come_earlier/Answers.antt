@@ -1,5 +1,0 @@
-use Rattle.run_meaning.proofs.Sorted as law
-use Rattle.run_meaning.proofs.predecessors_come_earlier.Goals as goal
-
-pub returns : goal.returns
-returns c = law.predecessors_come_earlier

@@ -1,0 +1,12 @@
+//! How work that was done ended.
+
+/// How work that was done ended.
+#[derive(Clone, Copy, Debug, PartialEq, Eq)]
+pub enum Conclusion {
+    /// All was done.
+    Done,
+    /// The certificate is readable and not valid.
+    No,
+    /// The graph exceeds the budget: at this level, with so many states and edges.
+    Spent { level: u64, states: u64, edges: u64 },
+}

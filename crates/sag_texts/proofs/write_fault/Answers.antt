@@ -1,6 +1,0 @@
-use Rattle.sag_texts.specs.FaultTexts.{fault_text}
-use Rattle.sag_texts.proofs.write_fault.Goals as goal
-
-pub returns-in-CannotWrite : goal.returns-in-CannotWrite
-unfolding fault_text
-returns-in-CannotWrite g c = rw c.in-CannotWrite.is c.write_line-in-CannotWrite.ensures

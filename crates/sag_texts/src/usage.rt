@@ -1,0 +1,20 @@
+//! The text that tells how the program is called.
+
+ghost use Rattle.sag_edge.specs.Writing.{Puts};
+ghost use Rattle.sag_texts.specs.FaultTexts.{usage_text};
+
+use sag_edge::{Failed, Sink, write_whole};
+
+/// The usage: a line a command, the first behind `usage: `, each other behind seven spaces. Commands stand in this order:
+/// analyse, check, replay, attain, report, selftest, convert, audit, unroll, whatif, gap.
+pub const USAGE: &str = "\
+usage: sag replay JOBS SCENARIO [--prec FILE] [--cores N]
+";
+
+/// Writes the usage.
+#[tactic(auto, unfolding(crate::specs::FaultTexts::usage_text))]
+pub(crate) fn write_usage<S: Sink>(sink: &mut S) -> Result<(), Failed>
+    ensures { Puts (S.seen sink.old) (S.seen sink.new) usage_text result }
+{
+    write_whole(sink, USAGE.as_bytes())
+}

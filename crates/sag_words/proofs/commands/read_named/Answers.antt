@@ -1,6 +1,0 @@
-use Rattle.std.proofs.Common.{map, string_bytes}
-use Rattle.sag_words.proofs.WordLemmas.{unknown_refused}
-use Rattle.sag_words.proofs.commands.read_named.Goals as goal
-
-pub returns-in_default-clause-usage : goal.returns-in_default-clause-usage
-returns-in_default-clause-usage c u = unknown_refused c.args.name.now (map string_bytes c.args.rest.now) c.in_default.not-replay

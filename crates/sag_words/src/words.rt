@@ -1,0 +1,38 @@
+//! The words of a command line: the program's name, a command's name, and the words of that command.
+
+ghost use Rattle.std.specs.Prelude.{◌≡◌, IfErr, IfOk, map, string_bytes};
+ghost use Rattle.sag_words.specs.Words.{Asks, WordsOf};
+ghost use Rattle.sag_words.specs.declared.command.Command.{Command};
+
+use crate::replay::read_replay;
+use crate::{Command, WordFault};
+use std::alloc::Global;
+
+// What a command's name and the words after it ask for.
+fn read_named(alloc: Global, name: &str, rest: &[String]) -> Result<Command, WordFault>
+    ensures read { IfOk result (Asks name.now (map string_bytes rest.now)) }
+    ensures usage { IfErr result (λ fault. fault ≡ WordFault.Usage →
+        (command : Command) → Asks name.now (map string_bytes rest.now) command → ⊥) }
+{
+    match name {
+        "replay" => read_replay(alloc, rest),
+        _ => Err(WordFault::Usage),
+    }
+}
+
+/// Reads the program's name, the command's name and the words after it.
+///
+/// Names are compared exactly, and no word is trimmed. An option stands before, between or after the places, as
+/// `--name value` or `--name=value`, and at most once. Any other word that begins with `-` and is longer is refused, also
+/// as an option's value after a space; but after the word `--`, which is no value, each word is for a place. There are
+/// no words for help or for a version. A number is one or more digits, with any number of zeros in front.
+pub fn read_words(alloc: Global, words: &[String]) -> Result<Command, WordFault>
+    ensures read { IfOk result (WordsOf (map string_bytes words.now)) }
+    ensures usage { IfErr result (λ fault. fault ≡ WordFault.Usage →
+        (command : Command) → WordsOf (map string_bytes words.now) command → ⊥) }
+{
+    match words {
+        [_, name, rest @ ..] => read_named(alloc, name.as_str(), rest),
+        _ => Err(WordFault::Usage),
+    }
+}
