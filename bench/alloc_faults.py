@@ -34,7 +34,7 @@ def stories():
 
 def run(folder, words, number):
     """The status, the output and the error stream of the call with that allocation failing."""
-    files = [part for word in words if word.endswith(".csv")
+    files = [part for word in words if (TOP / "examples" / folder / word).is_file()
              for part in ("--data", f"{word}={TOP / 'examples' / folder / word}")]
     done = subprocess.run([RT, "try", "--fail-alloc", str(number), *files, "--", *words], cwd=TOP / "crates" / "sag",
                           capture_output=True, check=False)

@@ -1,4 +1,5 @@
 mod FieldLemmas
+mod FieldsJoined
 mod FlatLemmas
 mod LineLemmas
 mod OneFirstFault

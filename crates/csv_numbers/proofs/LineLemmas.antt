@@ -100,18 +100,17 @@ row_text-numbers numbers lt fit =
     row_text-plain (map decimal numbers) (and_from (not (length (map decimal numbers) == 0)) (list_all is_plain (map decimal numbers)) (ap not some) (all-decimals numbers fit))
 
 -- the text of a heading alone
-pub rows_text-none : (heading : List (List ℕ)) → are_plain heading ≡ true → row_text default_writer heading ≡ rows_text heading []
+pub rows_text-none : (heading : List (List ℕ)) → [] ++ line_of heading ≡ rows_text heading []
 unfolding rows_text
-rows_text-none heading h = row_text-plain heading h ∙ sym (append-nil (line_of heading))
+rows_text-none heading = sym (append-nil (line_of heading))
 
 -- the text with one more row
-pub rows_text-more : (heading : List (List ℕ)) (rows : List (List ℕ)) (i : ℕ) (numbers : List ℕ) → i < length rows → numbers ≡ get_or rows i [] → 0 < length numbers → All (λ n. n < 2 ^ 64) numbers
-    → rows_text heading (take i rows) ++ row_text default_writer (map decimal numbers) ≡ rows_text heading (take (i + 1) rows)
+pub rows_text-more : (heading : List (List ℕ)) (rows : List (List ℕ)) (i : ℕ) (numbers : List ℕ) → i < length rows → numbers ≡ get_or rows i []
+    → rows_text heading (take i rows) ++ row_line numbers ≡ rows_text heading (take (i + 1) rows)
 unfolding rows_text
-rows_text-more heading rows i numbers lt is some fit =
+rows_text-more heading rows i numbers lt is =
     let more : take (i + 1) rows ≡ take i rows ++ numbers ∷ [] = take_more rows i [] lt ∙ ap (λ (r : List ℕ). take i rows ++ r ∷ []) (sym is) in
     let lines : flat_map row_line (take (i + 1) rows) ≡ flat_map row_line (take i rows) ++ row_line numbers =
     ap (flat_map row_line) more ∙ flat_map-append row_line (take i rows) (numbers ∷ []) ∙ ap (λ (t : List ℕ). flat_map row_line (take i rows) ++ t) (append-nil (row_line numbers)) in
-    append_assoc (line_of heading) (flat_map row_line (take i rows)) (row_text default_writer (map decimal numbers))
-    ∙ ap (λ (t : List ℕ). line_of heading ++ (flat_map row_line (take i rows) ++ t)) (row_text-numbers numbers some fit)
+    append_assoc (line_of heading) (flat_map row_line (take i rows)) (row_line numbers)
     ∙ ap (λ (t : List ℕ). line_of heading ++ t) (sym lines)

@@ -4,7 +4,7 @@ use Rattle.std.specs.List.{AllZip}
 use Rattle.csv.specs.Reading.{default_config, strip_bom}
 use Rattle.csv.specs.declared.parser.State.TheVariants as st
 use Rattle.csv_numbers.specs.Laws.{RowsAgree}
-use Rattle.csv_numbers.specs.Rows.{Reads, Record, RowReads, Rows}
+use Rattle.csv_numbers.specs.Rows.{Reads, Record, RowReads}
 use Rattle.csv_numbers.proofs.TextRecords.{reached-same}
 
 -- fields spell one list of numbers

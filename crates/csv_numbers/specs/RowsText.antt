@@ -1,11 +1,17 @@
 -- The text of a table of numbers, as it is written.
+--     next_field before field   a field behind so many others of its line
 --     line_of fields            the fields joined by commas alone, and a line feed
 --     row_line numbers          the line of a row: its numbers in decimal, without leading zeros
 --     rows_text heading rows    the line of the heading, and a line for each row
 --     is_plain word             the word stands in a line as it is: printable ASCII without commas and double quotes
 --     are_plain words           there is a word, and each is plain
-use Rattle.std.specs.Prelude.{◌==◌, ◌&&◌, ◌++◌, ◌∷◌, [], ℕ, Bool, List, length, map, decimal, not, nat_le, nat_lt}
+use Rattle.std.specs.Prelude.{◌==◌, ◌&&◌, ◌++◌, ◌∷◌, [], zero, suc, ℕ, Bool, List, length, map, decimal, not, nat_le, nat_lt}
 use Rattle.std.specs.List.{flat_map, join_with_byte, list_all}
+
+-- a field behind so many others of its line: after a comma, if there are any
+abbrev pub next_field : ℕ → List ℕ → List ℕ
+next_field zero field = field
+next_field (suc before) field = 44 ∷ field
 
 -- the fields joined by commas alone, and a line feed
 abbrev pub line_of : List (List ℕ) → List ℕ

@@ -1,17 +1,13 @@
--- What a reader of `csv` has given so far, and what a writer of it has written.
+-- What a reader of `csv` has given so far.
 --     BytesReader                                   a reader of bytes in memory
 --     HasGiven bytes records reader                 the reader, over these bytes, has given these records
 --     GivesNext bytes records found fields reader   it has given one more, or these were all
---     HasWritten text writer                        the writer has written this text
-use Rattle.std.specs.Prelude.{◌≡◌, ◌++◌, ◌∷◌, [], Bool, true, false, ℕ, List, Some, Vec}
+use Rattle.std.specs.Prelude.{◌≡◌, ◌++◌, ◌∷◌, [], Bool, true, false, ℕ, List, Some}
 use Rattle.std.specs.Borrow.{Bor}
-use Rattle.std.specs.declared.alloc.Global.{Global}
 use Rattle.csv.specs.Reading.{Reached, Ready, default_config, reader_config, reader_state, reader_trim, source_of, strip_bom}
-use Rattle.csv.specs.Writing.{default_writer, fields_written, has_written, text_written, writer_setup}
 use Rattle.csv.specs.declared.parser.State.TheVariants as st
 use Rattle.csv.specs.declared.reader.Reader.{Reader}
 use Rattle.csv.specs.declared.reader.Trim.TheVariants as trim
-use Rattle.csv.specs.declared.writer.Writer.{Writer}
 use Rattle.csv_numbers.specs.Rows.{Record, Records}
 
 -- a reader of bytes in memory
@@ -31,10 +27,3 @@ pub record HasGiven (bytes : List ℕ) (records : List Record) (reader : BytesRe
 abbrev pub GivesNext : List ℕ → List Record → Bool → Record → BytesReader → Type 0
 GivesNext bytes records true fields reader = HasGiven bytes (records ++ fields ∷ []) reader
 GivesNext bytes records false fields reader = Records bytes records
-
--- a writer with the defaults of `csv` has written this text, and stands between two records
-pub record HasWritten (text : List ℕ) (writer : Writer (Vec ℕ Global)) : Type 0 where
-  pub written : text_written (λ v. Some v.items) writer ≡ Some text
-  pub setup : writer_setup writer ≡ default_writer
-  pub fields : fields_written writer ≡ 0
-  pub clean : has_written writer ≡ false

@@ -1,37 +1,43 @@
 //! Writing a table.
 
-ghost use Rattle.std.specs.Prelude.{◌≡◌, ◌<◌, ◌^◌, ◌++◌, All, List, ℕ, IfOk, IsTrue, OnOk, decimal, length, map};
-ghost use Rattle.csv.specs.Records.{fields_of};
-ghost use Rattle.csv.specs.Writing.{default_writer, row_text};
+ghost use Rattle.std.specs.Prelude.{◌≡◌, ◌<◌, ◌^◌, ◌++◌, All, IfOk, IsTrue, OnOk, length, map};
 ghost use Rattle.csv_numbers.specs.Rows.{Rows};
-ghost use Rattle.csv_numbers.specs.RowsText.{are_plain, rows_text};
-ghost use Rattle.csv_numbers.specs.Streams.{HasWritten};
+ghost use Rattle.csv_numbers.specs.RowsText.{are_plain, line_of, next_field, row_line, rows_text};
 
-use csv::{ByteRecord, Writer};
 use itoa::Buffer;
 use std::alloc::{AllocError, Global};
 
-// Makes the record hold these words.
-fn put_words(entry: &mut ByteRecord, words: &[&str]) -> Result<(), AllocError>
-    ensures { OnOk result (fields_of entry.new ≡ map (λ w. w.now) words.now) }
+// Puts a field at the end of the text, behind so many others of its line.
+fn put_field(text: &mut Vec<u8>, before: usize, field: &[u8]) -> Result<(), AllocError>
+    ensures { OnOk result (text.new.items ≡ text.old.items ++ next_field before field.now) }
 {
-    entry.clear();
-    for word in words {
-        entry.push_field(word.as_bytes())?;
+    if before > 0 {
+        text.push(b',')?;
     }
+    text.extend_from_slice(field)
+}
+
+// Puts a line of these words at the end of the text.
+fn put_words(text: &mut Vec<u8>, words: &[&str]) -> Result<(), AllocError>
+    ensures { OnOk result (text.new.items ≡ text.old.items ++ line_of (map (λ w. w.now) words.now)) }
+{
+    for (place, word) in words.iter().enumerate() {
+        put_field(text, place, word.as_bytes())?;
+    }
+    text.push(b'\n')?;
     Ok(())
 }
 
-// Makes the record hold these numbers, in decimal.
-fn put_numbers(entry: &mut ByteRecord, numbers: &[u64]) -> Result<(), AllocError>
-    ensures fields { OnOk result (fields_of entry.new ≡ map decimal numbers.now) }
+// Puts a line of these numbers, in decimal, at the end of the text.
+fn put_numbers(text: &mut Vec<u8>, numbers: &[u64]) -> Result<(), AllocError>
+    ensures line { OnOk result (text.new.items ≡ text.old.items ++ row_line numbers.now) }
     ensures fit { All (λ n. n < 2 ^ 64) numbers.now }
 {
     let mut buffer = Buffer::new();
-    entry.clear();
-    for number in numbers {
-        entry.push_field(buffer.format(*number).as_bytes())?;
+    for (place, number) in numbers.iter().enumerate() {
+        put_field(text, place, buffer.format(*number).as_bytes())?;
     }
+    text.push(b'\n')?;
     Ok(())
 }
 
@@ -41,17 +47,6 @@ fn columns<const N: usize>(row: &[u64; N]) -> &[u64]
     ensures width { length result.now ≡ N }
 {
     row
-}
-
-// Writes the record, after what was written before.
-fn write_record(writer: &mut Writer<Vec<u8>>, entry: &ByteRecord) -> Result<(), AllocError>
-    ensures { OnOk result ((text : List ℕ) → HasWritten text writer.old
-        → HasWritten (text ++ row_text default_writer (fields_of entry.now)) writer.new) }
-{
-    match writer.write_byte_record(entry) {
-        Ok(()) => Ok(()),
-        Err(_) => Err(AllocError),
-    }
 }
 
 /// The CSV text of a table of numbers: its heading, and then its rows.
@@ -69,16 +64,10 @@ pub fn write_table<const N: usize>(
         text.items ≡ rows_text (map (λ w. w.now) heading.now) rows.now) }
     ensures reads { IfOk result (λ text. Rows text.items N rows.now) }
 {
-    let mut writer = Writer::from_writer(Vec::new(alloc));
-    let mut entry = ByteRecord::new(alloc);
-    put_words(&mut entry, heading)?;
-    write_record(&mut writer, &entry)?;
+    let mut text = Vec::new(alloc);
+    put_words(&mut text, heading)?;
     for row in rows {
-        put_numbers(&mut entry, columns(row))?;
-        write_record(&mut writer, &entry)?;
+        put_numbers(&mut text, columns(row))?;
     }
-    match writer.into_inner() {
-        Ok(text) => Ok(text),
-        Err(_) => Err(AllocError),
-    }
+    Ok(text)
 }

@@ -15,7 +15,8 @@ use Rattle.sag_step.specs.Shape.{IsState}
 use Rattle.sag_step.specs.Widen.{widens}
 use Rattle.sag_step.specs.Offers.{Offer, offers, offers_of}
 use Rattle.start_windows.proofs.WindowFacts.{IsWindow-from}
-use Rattle.graph_check.specs.Turns.{IsFit, IsStart, AreFit, HeldTurns, StandsAt, offer_at, offer_by, offers_from, offers_left, states_of, turn_of, windows_at}
+use Rattle.graph_check.specs.declared.level_state.LevelState.{LevelState}
+use Rattle.graph_check.specs.Turns.{IsFit, IsLevelState, IsStart, AreFit, HeldTurns, StandsAt, offer_at, offer_by, offers_from, offers_left, states_of, turn_of, windows_at}
 use Rattle.lists.proofs.Elements.{drop-at}
 
 -- ---- places of lists
@@ -50,10 +51,10 @@ none-past (x ∷ xs) (suc k) e = let rest = none-past xs k e in omega arith
 
 -- ---- fit states
 
-fit-at : (table : Table) (m : ℕ) (level : List SystemState) (k : ℕ) (s : SystemState) → AllByRecursion (IsFit table m) level → slice_get level k ≡ Some s →
-    IsFit table m s
+fit-at : (table : Table) (m : ℕ) (level : List LevelState) (k : ℕ) (s : LevelState) → AllByRecursion (IsLevelState table m) level → slice_get level k ≡ Some s →
+    IsLevelState table m s
 fit-at table m [] k s all e = absurd (cc)
-fit-at table m (t ∷ level) zero s all e = subst (IsFit table m) (cc) all.0
+fit-at table m (t ∷ level) zero s all e = subst (IsLevelState table m) (cc) all.0
 fit-at table m (t ∷ level) (suc k) s all e = fit-at table m level k s all.1 e
 
 -- ---- the offers of one state
@@ -213,28 +214,30 @@ module _ (turns : HeldTurns) (at : ℕ) (windows : List (ℕ × StartWindow)) (p
 -- ---- states in memory
 
 -- what an index gives of the states
-pub state-at : (held : List HeldState) (at : ℕ) (x : HeldState) → at < length held → x ≡ get_or held at x → slice_get (states_of held) at ≡ Some x.state
+pub state-at : (held : List LevelState) (at : ℕ) (x : LevelState) → at < length held → x ≡ get_or held at x → slice_get (states_of held) at ≡ Some x.state.state
 state-at held at x lt is =
-    slice_get-map (λ (h : HeldState). h.state) held at ∙ ap (option_map (λ (h : HeldState). h.state)) (slice_get_read held (length held) at x refl lt is)
+    slice_get-map (λ (h : LevelState). h.state.state) held at ∙ ap (option_map (λ (h : LevelState). h.state.state)) (slice_get_read held (length held) at x refl lt is)
 
-pub state-past : (held : List HeldState) (at : ℕ) → length held ≤ at → slice_get (states_of held) at ≡ None
+pub state-past : (held : List LevelState) (at : ℕ) → length held ≤ at → slice_get (states_of held) at ≡ None
 state-past held at past =
-    slice_get-map (λ (h : HeldState). h.state) held at ∙ ap (option_map (λ (h : HeldState). h.state)) (slice_get_past held at past)
+    slice_get-map (λ (h : LevelState). h.state.state) held at ∙ ap (option_map (λ (h : LevelState). h.state.state)) (slice_get_past held at past)
 
 -- a state at its place, as a step asks of it
-pub record IsSource (table : Table) (m : ℕ) (level : List SystemState) (at : ℕ) (state : SystemState) : Type 0 where
-  pub at_place : slice_get level at ≡ Some state
-  pub fit : IsFit table m state
-  pub some : 0 < length state.low
+pub record IsSource (table : Table) (m : ℕ) (level : List SystemState) (at : ℕ) (held : LevelState) : Type 0 where
+  pub at_place : slice_get level at ≡ Some held.state.state
+  pub level_state : IsLevelState table m held
+  pub fit : IsFit table m held.state.state
+  pub some : 0 < length held.state.state.low
 
-pub source-at : (table : Table) (m : ℕ) (held : List HeldState) (at : ℕ) (x : HeldState) → AreFit table m (states_of held) → at < length held → x ≡ get_or held at x →
-    IsSource table m (states_of held) at x.state
+pub source-at : (table : Table) (m : ℕ) (held : List LevelState) (at : ℕ) (x : LevelState) → AreFit table m held → at < length held → x ≡ get_or held at x →
+    IsSource table m (states_of held) at x
 source-at table m held at x fit lt is =
     let here = state-at held at x lt is in
-    let own = fit-at table m (states_of held) at x.state fit.each here in
-    let cores : length x.state.low ≡ m = own.is_state.shape.low_count in
+    let level_state = fit-at table m held at x fit.each (slice_get_read held (length held) at x refl lt is) in
+    let own = level_state.fit in
+    let cores : length x.state.state.low ≡ m = own.is_state.shape.low_count in
     let one : 1 ≤ m = own.is_state.some_core in
-    record { at_place = here; fit = own; some = omega arith }
+    record { at_place = here; level_state = level_state; fit = own; some = omega arith }
 
 -- the windows of a state at its place
 pub windows-here : (table : Table) (level : List SystemState) (at : ℕ) (s : SystemState) → slice_get level at ≡ Some s →
@@ -263,7 +266,7 @@ none-stands table m at place passed = record {
 
 -- ---- what a walk asks
 
-module _ (table : Table) (m : ℕ) (held : List HeldState) (passed at : ℕ) (windows : List (ℕ × StartWindow)) (place : ℕ) where
+module _ (table : Table) (m : ℕ) (held : List LevelState) (passed at : ℕ) (windows : List (ℕ × StartWindow)) (place : ℕ) where
   abbrev turns-of : HeldTurns
   turns-of = record { table = table; cores = m; level = states_of held; passed = passed }
 
@@ -275,31 +278,31 @@ module _ (table : Table) (m : ℕ) (held : List HeldState) (passed at : ℕ) (wi
   pub are-places : (old : HeldTurns) → turns-of ≡ old → StandsAt turns-of at windows place → IsSome (offer_at old) → ArePlaces
   are-places old is stands some =
       let placed = is-placed turns-of at windows place stands (subst (λ t. IsSome (offer_at t)) (sym is) some) in
-      let count : length (states_of held) ≡ length held = length-map held (λ (h : HeldState). h.state) in
+      let count : length (states_of held) ≡ length held = length-map held (λ (h : LevelState). h.state.state) in
       let in_windows = placed.in_windows in
       let in_level = placed.in_level in
       record { in_windows = in_windows; in_states = omega arith }
 
   -- the state and the job of the offer whose turn it is, and room for its next state
-  pub record IsStep (x : HeldState) (w : ℕ × StartWindow) (scratch : HeldState) : Type 0 where
-    pub fit : IsFit table m x.state
-    pub from : IsState table (length x.state.low) x.state
-    pub into : IsState table (length x.state.low) scratch.state
-    pub window : state_window table x.state w.0 ≡ Some w.1
-    pub offer : offer_at turns-of ≡ Some (offer_by table at x.state w)
+  pub record IsStep (x : LevelState) (w : ℕ × StartWindow) (scratch : HeldState) : Type 0 where
+    pub fit : IsFit table m x.state.state
+    pub from : IsState table (length x.state.state.low) x.state.state
+    pub into : IsState table (length x.state.state.low) scratch.state
+    pub window : state_window table x.state.state w.0 ≡ Some w.1
+    pub offer : offer_at turns-of ≡ Some (offer_by table at x.state.state w)
     pub behind : drop (passed + 1) (offers table (states_of held)) ≡ offers_left table (states_of held) at (drop (place + 1) windows)
 
-  pub is-step : (old : HeldTurns) → turns-of ≡ old → AreFit table m (states_of held) → StandsAt turns-of at windows place → IsSome (offer_at old) →
-      (x : HeldState) → x ≡ get_or held at x → (w : ℕ × StartWindow) → w ≡ get_or windows place w → (scratch : HeldState) → IsState table m scratch.state → IsStep x w scratch
+  pub is-step : (old : HeldTurns) → turns-of ≡ old → AreFit table m held → StandsAt turns-of at windows place → IsSome (offer_at old) →
+      (x : LevelState) → x ≡ get_or held at x → (w : ℕ × StartWindow) → w ≡ get_or windows place w → (scratch : HeldState) → IsState table m scratch.state → IsStep x w scratch
   is-step old is fit stands some x x-is w w-is scratch scratch-is =
       let places = are-places old is stands some in
       let source = source-at table m held at x fit places.in_states x-is in
       let turn = is-turn turns-of at windows place stands w (slice_get_read windows (length windows) place w refl places.in_windows w-is) in
-      let one : turn.state ≡ x.state = same_Some turn.state x.state (sym turn.is_state ∙ source.at_place) in
-      let cores : m ≡ length x.state.low = sym source.fit.is_state.shape.low_count in
+      let one : turn.state ≡ x.state.state = same_Some turn.state x.state.state (sym turn.is_state ∙ source.at_place) in
+      let cores : m ≡ length x.state.state.low = sym source.fit.is_state.shape.low_count in
       record {
         fit = source.fit;
-        from = subst (λ n. IsState table n x.state) cores source.fit.is_state;
+        from = subst (λ n. IsState table n x.state.state) cores source.fit.is_state;
         into = subst (λ n. IsState table n scratch.state) cores scratch-is;
         window = subst (λ s. state_window table s w.0 ≡ Some w.1) one turn.window;
         offer = subst (λ s. offer_at turns-of ≡ Some (offer_by table at s w)) one turn.offer;
@@ -340,30 +343,30 @@ pub covers-offer : (old : HeldTurns) (state : SystemState) (result : Bool) (o : 
 covers-offer old state result o is e = rw is e
 
 -- what is told of a state by its number
-pub record ToldState (old : HeldTurns) (number : ℕ) (result : Option (Bor HeldState)) : Type 0 where
-  pub some : IfSome result (λ s. slice_get old.level number ≡ Some s.now.state)
-  pub fit : IfSome result (λ s. IsFit old.table old.cores s.now.state)
+pub record ToldState (old : HeldTurns) (number : ℕ) (result : Option (Bor LevelState)) : Type 0 where
+  pub some : IfSome result (λ s. slice_get old.level number ≡ Some s.now.state.state)
+  pub fit : IfSome result (λ s. IsLevelState old.table old.cores s.now)
   pub none : IfNone result (slice_get old.level number ≡ None)
 
-pub told-state : (table : Table) (m : ℕ) (held : List HeldState) (passed number : ℕ) (old : HeldTurns) →
-    record { table = table; cores = m; level = states_of held; passed = passed } ≡ old → AreFit table m (states_of held) → (result : Option (Bor HeldState)) →
-    MatchOption result (length held ≤ number) (λ x. (number < length held) × ((d : HeldState) → x.now ≡ get_or held number d)) → ToldState old number result
+pub told-state : (table : Table) (m : ℕ) (held : List LevelState) (passed number : ℕ) (old : HeldTurns) →
+    record { table = table; cores = m; level = states_of held; passed = passed } ≡ old → AreFit table m held → (result : Option (Bor LevelState)) →
+    MatchOption result (length held ≤ number) (λ x. (number < length held) × ((d : LevelState) → x.now ≡ get_or held number d)) → ToldState old number result
 told-state table m held passed number old is fit None past =
     subst (λ (t : HeldTurns). ToldState t number None) is (record { some = tt; fit = tt; none = state-past held number past })
 told-state table m held passed number old is fit (Some x) there =
     let source = source-at table m held number x.now fit there.0 (there.1 x.now) in
-    subst (λ (t : HeldTurns). ToldState t number (Some x)) is (record { some = source.at_place; fit = source.fit; none = tt })
+    subst (λ (t : HeldTurns). ToldState t number (Some x)) is (record { some = source.at_place; fit = source.level_state; none = tt })
 
 -- ---- what is known of the fields, where clauses speak of the view
 
-module _ (table : Table) (m : ℕ) (held : List HeldState) (passed : ℕ) (old : HeldTurns) (is : record { table = table; cores = m; level = states_of held; passed = passed } ≡ old) where
+module _ (table : Table) (m : ℕ) (held : List LevelState) (passed : ℕ) (old : HeldTurns) (is : record { table = table; cores = m; level = states_of held; passed = passed } ≡ old) where
   pub own-fit : (state : SystemState) → IsFit old.table old.cores state → IsFit table m state
   own-fit state fit = subst (λ (t : HeldTurns). IsFit t.table t.cores state) (sym is) fit
 
-  pub fit-of-view : (states : List SystemState) → AreFit old.table old.cores states → AreFit table m states
+  pub fit-of-view : (states : List LevelState) → AreFit old.table old.cores states → AreFit table m states
   fit-of-view states fit = subst (λ (t : HeldTurns). AreFit t.table t.cores states) (sym is) fit
 
-pub passed-turn : (table : Table) (m : ℕ) (held : List HeldState) (passed at : ℕ) (windows : List (ℕ × StartWindow)) (place : ℕ) (old : HeldTurns) →
+pub passed-turn : (table : Table) (m : ℕ) (held : List LevelState) (passed at : ℕ) (windows : List (ℕ × StartWindow)) (place : ℕ) (old : HeldTurns) →
     turns-of table m held passed at windows place ≡ old → StandsAt (turns-of table m held passed at windows place) at windows place → IsSome (offer_at old) →
     drop (passed + 1) (offers table (states_of held)) ≡ offers_left table (states_of held) at (drop (place + 1) windows)
 passed-turn table m held passed at windows place old is stands some =

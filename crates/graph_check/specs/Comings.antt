@@ -6,7 +6,7 @@
 --     due_for line                  when a line of this kind is due
 --     turn_clause r due kind        what a line of a kind breaks where another is due
 --     Comes table m old line result new     the progress after a line, the clause that it breaks, or want of memory
---     edge_offer, has_candidate, child_members, IsChildSet      parts of an edge line and of a state line
+--     edge_offer, has_candidate, child_members, IsOrigin      parts of an edge line and of a state line
 --     StepsOn table m old line result new   the step of a progress in memory
 --     with_due table r, at_level r number   the progress with the line due that its level says; at the beginning of a level
 use Rattle.std.specs.Prelude.{◌≡◌, ℕ, ◌+◌, Bool, true, false, List, [], slice_get, map, nat_le, nat_lt, length, IsTrue, Option, Some, None, Result, Ok, Err, if◌then◌else◌}
@@ -26,13 +26,14 @@ use Rattle.cert_text.specs.declared.line.CertLine.TheVariants as line
 use Rattle.graph_check.specs.declared.clause.Clause.{Clause}
 use Rattle.graph_check.specs.declared.clause.Clause.TheVariants.{K2, K4, K6}
 use Rattle.graph_check.specs.declared.due.Due.{Due}
+use Rattle.graph_check.specs.declared.level_state.LevelState.{LevelState}
 use Rattle.graph_check.specs.declared.due.Due.TheVariants as due
 use Rattle.graph_check.specs.declared.answer.Broken.{Broken}
 use Rattle.graph_check.specs.declared.answer.Broken.TheVariants as broken
 use Rattle.graph_check.specs.Progress.{Progress, due_in_level}
 use Rattle.graph_check.specs.Checks.{first_broken, due_checks, is_behind_block}
 use Rattle.graph_check.specs.Kept.{after_line, with_line}
-use Rattle.graph_check.specs.Turns.{IsFit}
+use Rattle.graph_check.specs.Turns.{IsFit, IsLevelState}
 
 -- ---- the state of a line
 
@@ -102,12 +103,12 @@ has_candidate table before parent job = option_map_or (λ p. is_candidate table 
 abbrev pub child_members : List SystemState → ℕ → ℕ → List ℕ
 child_members before parent job = option_map_or (λ p. with_number job p.set.members) (slice_get before parent) []
 
--- the set of a state with that parent that adds the job, or K4
-unfoldable pub IsChildSet : Table → List SystemState → ℕ → ℕ → Result Subset Broken → Type 0
-IsChildSet table before parent job (Ok set) =
-    (has_candidate table before parent job ≡ true) × (set ≡ record { size = length table.jobs; members = child_members before parent job })
-IsChildSet table before parent job (Err (broken.Clause clause)) = (clause ≡ K4) × (has_candidate table before parent job ≡ false)
-IsChildSet table before parent job (Err broken.Memory) = Unit {0}
+-- The parent is the state of that number, with numbers from which a step can be made, and the job is a candidate of it.
+pub record IsOrigin (table : Table) (m : ℕ) (before : List SystemState) (parent job : ℕ) (held : LevelState) (number : ℕ) : Type 0 where
+  pub there : slice_get before parent ≡ Some held.state.state
+  pub level_state : IsLevelState table m held
+  pub same_job : number ≡ job
+  pub candidate : is_candidate table held.state.state.set.members number ≡ true
 
 -- a progress after one line more, or the failure at that line
 unfoldable pub StepsOn : Table → ℕ → Progress → CertLine → Result Unit Broken → Progress → Type 0

@@ -1,7 +1,7 @@
 -- The offers of a level, one after another, in memory.
 --     IsFit table m state          a state from which a step can be made
---     AreFit table m states        all of these are
---     states_of held               the states alone, without their room
+--     IsLevelState table m held    such a state with a front, and AreFit table m held      all of these are
+--     states_of held               the states alone, without their fronts and their room
 --     HeldTurns                    the states of a level, and how many of their offers have been passed
 --     offer_at turns               the offer whose turn it is
 --     Turn, turn_of offer          what names it
@@ -12,12 +12,13 @@ use Rattle.std.specs.List.{enumerate_from, flat_map, AllByRecursion}
 use Rattle.std.specs.Option.{option_map_or}
 use Rattle.job_model.specs.Table.{Table}
 use Rattle.start_windows.specs.declared.StartWindow.{StartWindow}
-use Rattle.start_windows.specs.Eligible.{eligible_windows}
+use Rattle.start_windows.specs.Eligible.{IsFront, eligible_windows}
 use Rattle.sag_step.specs.declared.TheConstants.{MOST_STEP_TIME}
-use Rattle.sag_step.specs.State.{SystemState, HeldState, first_core}
+use Rattle.sag_step.specs.State.{SystemState, first_core}
 use Rattle.sag_step.specs.Next.{next}
 use Rattle.sag_step.specs.Shape.{IsState, IsUpTo}
 use Rattle.sag_step.specs.Offers.{Offer, offers, offers_of}
+use Rattle.graph_check.specs.declared.level_state.LevelState.{LevelState}
 use Rattle.graph_check.specs.declared.turn.Turn.{Turn}
 
 -- a state of the table, with numbers from which a step can be made
@@ -25,13 +26,18 @@ pub record IsFit (table : Table) (m : ℕ) (state : SystemState) : Type 0 where
   pub is_state : IsState table m state
   pub in_limit : IsUpTo MOST_STEP_TIME state
 
--- each of the states is fit
-pub record AreFit (table : Table) (m : ℕ) (states : List SystemState) : Type 0 where
-  pub each : AllByRecursion (IsFit table m) states
+-- a state of a level: it is fit, and the place beside it is a front of its set
+pub record IsLevelState (table : Table) (m : ℕ) (held : LevelState) : Type 0 where
+  pub fit : IsFit table m held.state.state
+  pub front : IsFront table held.state.state.set.members held.front
 
--- the states, without their room
-abbrev pub states_of : List HeldState → List SystemState
-states_of held = map (λ h. h.state) held
+-- each of them is one
+pub record AreFit (table : Table) (m : ℕ) (held : List LevelState) : Type 0 where
+  pub each : AllByRecursion (IsLevelState table m) held
+
+-- the states, without their fronts and their room
+abbrev pub states_of : List LevelState → List SystemState
+states_of held = map (λ h. h.state.state) held
 
 -- the states of a level, and how many of their offers have been passed
 pub record HeldTurns : Type 0 where

@@ -1,4 +1,6 @@
--- Valid certificates.
+-- Valid certificates. The clauses K1 to K11 are this project's own: the literature proves the analysis and knows no certificate.
+-- They ask that the lines are a graph whose states cover those that the literature's expansion gives (specs of sag_step and of
+-- start_windows name the papers), so that the intervals of jobs hold in each run.
 --     IsBlockBy, IsValidBlock         a level above 0 keeps clauses K4 to K8, with any relation for K8, and with that of the format
 --     KeepsBy, KeepsClauses           a certificate keeps clauses K1 to K11
 --     Valid table m lines             the lines are those of a certificate that keeps them

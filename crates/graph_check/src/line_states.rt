@@ -2,8 +2,10 @@
 
 ghost use Rattle.std.specs.Prelude.{◌≡◌, ◌≤◌, length, map, IfNone, IfOk, IfSome, IsTrue};
 ghost use Rattle.std.specs.List.{AllByRecursion};
-ghost use Rattle.job_sets.specs.Subset.{IsSubset};
+ghost use Rattle.job_sets.specs.Subset.{IsSubset, with_number};
 ghost use Rattle.sag_time.specs.Sorted.{is_sorted};
+ghost use Rattle.start_windows.specs.Window.{is_candidate};
+ghost use Rattle.sag_step.specs.Shape.{IsState};
 ghost use Rattle.cert_text.specs.Grammar.{second_version};
 ghost use Rattle.cert_text.specs.Spelling.{FitsEnd, FitsPairs};
 ghost use Rattle.graph_check.specs.Entries.{state_from};
@@ -115,4 +117,41 @@ pub(crate) fn state_of_line(
         return Ok(None);
     };
     Ok(State::from_parts(table, cores, set, low, high, ends, last))
+}
+
+/// The state that a line gives, if it has the shape of one. Its set is that of the parent with the job.
+pub(crate) fn child_of_line(
+    alloc: Global,
+    table: &JobTable,
+    cores: u16,
+    parent: &State,
+    job: JobNo,
+    pairs: &[Pair],
+    ends: &[EndOf],
+    last: &[u64],
+) -> Result<Option<State>, AllocError>
+    requires parent { IsState table.now cores parent.now.state }
+    requires job { IsTrue (is_candidate table.now parent.now.state.set.members job) }
+    requires pairs { FitsPairs second_version pairs.now }
+    requires few_ends { length ends.now ≤ second_version.most_items }
+    requires ends { AllByRecursion FitsEnd ends.now }
+    ensures { IfOk result (FindsState table.now cores (state_from table.now
+        (with_number job parent.now.state.set.members) pairs.now ends.now last.now)) }
+{
+    let mut set = parent.set().copy(alloc)?;
+    set.add(job);
+    let _members = set.count();
+    let Some(low) = low_times(alloc, pairs)? else {
+        return Ok(None);
+    };
+    let Some(high) = high_times(alloc, pairs)? else {
+        return Ok(None);
+    };
+    let Some(ends) = ends_of_line(alloc, table.len(), ends)? else {
+        return Ok(None);
+    };
+    let Some(last) = last_of_line(alloc, table.len(), last)? else {
+        return Ok(None);
+    };
+    Ok(parent.child_from_parts(table, cores, job, set, low, high, ends, last))
 }

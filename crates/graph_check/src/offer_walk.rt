@@ -7,8 +7,9 @@ ghost use Rattle.sag_step.specs.Next.{next};
 ghost use Rattle.sag_step.specs.Shape.{IsState, IsUpTo};
 ghost use Rattle.sag_step.specs.State.{state_window};
 ghost use Rattle.sag_step.specs.Widen.{widens};
-ghost use Rattle.graph_check.specs.Turns.{AreFit, IsFit, IsStart, offer_at, offers_left, states_of, turn_of, windows_at};
+ghost use Rattle.graph_check.specs.Turns.{AreFit, IsFit, IsLevelState, IsStart, offer_at, offers_left, states_of, turn_of, windows_at};
 
+use crate::level_state::LevelState;
 use crate::turn::Turn;
 use job_model::JobTable;
 use job_sets::JobNo;
@@ -37,7 +38,7 @@ struct Place {
 pub(crate) struct OfferWalk<'a> {
     table: &'a JobTable,
     cores: u16,
-    states: Vec<State>,
+    states: Vec<LevelState>,
     place: Place,
     passed: u64,
     // room for the next state of an offer
@@ -58,7 +59,7 @@ impl<'a> Model for OfferWalk<'a> {
       passed = w.passed;
     } };
 
-    ghost invariant = { λ w. (1 ≤ w.cores) × AreFit w.table.now w.cores (states_of w.states.items)
+    ghost invariant = { λ w. (1 ≤ w.cores) × AreFit w.table.now w.cores w.states.items
         × StandsAt (record { table = w.table.now; cores = w.cores; level = states_of w.states.items; passed = w.passed })
         w.place.at w.place.windows.items w.place.place
         × IsState w.table.now w.cores w.scratch.state
@@ -69,24 +70,24 @@ impl<'a> Model for OfferWalk<'a> {
 fn list_windows(
     table: &JobTable,
     cores: u16,
-    states: &[State],
+    states: &[LevelState],
     at: usize,
     found: &mut Vec<Prospect>,
     windows: &mut Vec<(JobNo, StartWindow)>,
 ) -> Result<(), AllocError>
-    requires states { AreFit table.now cores (states_of states.now) }
+    requires states { AreFit table.now cores states.now }
     ensures { OnOk result (windows.new.items ≡ windows_at table.now (states_of states.now) at) }
 {
-    let Some(state) = states.get(at) else {
+    let Some(entry) = states.get(at) else {
         windows.clear();
         return Ok(());
     };
     eligible(
         table,
-        state.set(),
-        state.ends(),
-        state.first_core(),
-        0,
+        entry.state.set(),
+        entry.state.ends(),
+        entry.state.first_core(),
+        entry.front,
         found,
         windows,
     )?;
@@ -97,10 +98,10 @@ fn list_windows(
 fn settle(
     table: &JobTable,
     cores: u16,
-    states: &[State],
+    states: &[LevelState],
     place: &mut Place,
 ) -> Result<(), AllocError>
-    requires states { AreFit table.now cores (states_of states.now) }
+    requires states { AreFit table.now cores states.now }
     requires own { place.old.windows.items ≡ windows_at table.now (states_of states.now) place.old.at }
     ensures own { OnOk result (place.new.windows.items
         ≡ windows_at table.now (states_of states.now) place.new.at) }
@@ -192,10 +193,10 @@ impl<'a> OfferWalk<'a> {
         self.cores
     }
 
-    /// The state of that number, if there is one.
-    pub(crate) fn state(&self, number: u64) -> Option<&State>
-        ensures some { IfSome result (λ s. slice_get self.now.level number ≡ Some s.now.state) }
-        ensures fit { IfSome result (λ s. IsFit self.now.table self.now.cores s.now.state) }
+    /// The state of that number with its front, if there is one.
+    pub(crate) fn state(&self, number: u64) -> Option<&LevelState>
+        ensures some { IfSome result (λ s. slice_get self.now.level number ≡ Some s.now.state.state) }
+        ensures fit { IfSome result (λ s. IsLevelState self.now.table self.now.cores s.now) }
         ensures none { IfNone result (slice_get self.now.level number ≡ None) }
     {
         self.states.get(number as usize)
@@ -232,7 +233,7 @@ impl<'a> OfferWalk<'a> {
         make_next::<Brand>(
             Blank::new(1),
             self.table,
-            from,
+            &from.state,
             job,
             window,
             &mut self.scratch,
@@ -268,8 +269,8 @@ impl<'a> OfferWalk<'a> {
     }
 
     /// Begins with the offers of other states. After want of memory it may be at any place.
-    pub(crate) fn begin(&mut self, states: Vec<State>) -> Result<(), AllocError>
-        requires fit { AreFit self.old.table self.old.cores (states_of states.items) }
+    pub(crate) fn begin(&mut self, states: Vec<LevelState>) -> Result<(), AllocError>
+        requires fit { AreFit self.old.table self.old.cores states.items }
         ensures begun { OnOk result (self.new
             ≡ record self.old { level = states_of states.items; passed = 0 }) }
         ensures table { self.new.table ≡ self.old.table }
@@ -290,10 +291,10 @@ impl<'a> OfferWalk<'a> {
 fn begin_at(
     table: &JobTable,
     cores: u16,
-    states: &[State],
+    states: &[LevelState],
     place: &mut Place,
 ) -> Result<(), AllocError>
-    requires states { AreFit table.now cores (states_of states.now) }
+    requires states { AreFit table.now cores states.now }
     ensures own { OnOk result (place.new.windows.items
         ≡ windows_at table.now (states_of states.now) place.new.at) }
     ensures left { OnOk result

@@ -1,6 +1,6 @@
 //! What is kept of the lines of a certificate while no clause is broken.
 
-ghost use Rattle.std.specs.Prelude.{◌≡◌, ◌+◌, ◌++◌, ◌∷◌, [], ◌<◌, ◌≤◌, ◌^◌, ◌↔◌, ◌&&◌, ◌==◌, IfErr, IfNone, IfOk, IfSome, IsSome, IsTrue, None, OnOk, Some, length, map, replicate};
+ghost use Rattle.std.specs.Prelude.{◌≡◌, ◌+◌, ◌++◌, ◌∷◌, [], ◌<◌, ◌≤◌, ◌^◌, ◌↔◌, ◌&&◌, ◌==◌, IfErr, IfNone, IfOk, IfSome, IsSome, IsTrue, None, OnOk, false, Some, length, map, replicate};
 ghost use Rattle.std.specs.Bool.{beq};
 ghost use Rattle.std.specs.List.{list_all};
 ghost use Rattle.std.specs.Option.{option_map_or};
@@ -15,17 +15,18 @@ ghost use Rattle.graph_check.specs.declared.answer.Broken.TheVariants as broken;
 ghost use Rattle.graph_check.specs.Checks as checks;
 ghost use Rattle.graph_check.specs.Checks.{due_checks, edge_checks, first_broken, job_checks};
 ghost use Rattle.graph_check.specs.Comings as comings;
-ghost use Rattle.graph_check.specs.Comings.{Comes, IfClause, IsChildSet, StepsOn, at_level, child_members, due_for, edge_offer, has_candidate, with_due};
+ghost use Rattle.graph_check.specs.Comings.{Comes, IfClause, IsOrigin, StepsOn, at_level, child_members, due_for, edge_offer, has_candidate, with_due};
 ghost use Rattle.graph_check.specs.Entries.{is_ok_mark, root_from, state_from};
 ghost use Rattle.graph_check.specs.Kept.{hulls_with};
 ghost use Rattle.graph_check.specs.Progress.{before_first_line};
 ghost use Rattle.graph_check.specs.Progress as progress;
-ghost use Rattle.graph_check.specs.Turns.{IsFit, IsStart};
+ghost use Rattle.graph_check.specs.Turns.{IsLevelState, IsStart};
 
 use crate::answer::{Broken, Yes};
 use crate::due::{is_due, kind_of};
 use crate::hulls::Hulls;
-use crate::line_states::state_of_line;
+use crate::level_state::LevelState;
+use crate::line_states::{child_of_line, state_of_line};
 use crate::offer_walk::OfferWalk;
 use crate::{Clause, Due};
 use cert_text::{CertLine, EndOf, Mark, Pair};
@@ -33,7 +34,7 @@ use job_model::{JobNo, JobTable};
 use job_sets::JobSet;
 use sag_step::{State, root_is_shaped, shaped_are_comparable};
 use sag_time::Span;
-use start_windows::candidate;
+use start_windows::{candidate, front_from, fronts_are_handed_down};
 use std::alloc::{AllocError, Global};
 use std::marker::Model;
 
@@ -48,7 +49,7 @@ pub(crate) struct Progress<'a> {
     count: u64,
     // the level before it
     walk: OfferWalk<'a>,
-    states: Vec<State>,
+    states: Vec<LevelState>,
     hulls: Hulls,
     jobs: Yes,
 }
@@ -59,12 +60,12 @@ impl<'a> Model for Progress<'a> {
 
     ghost Value = { HeldProgress };
 
-    ghost use Rattle.graph_check.specs.Turns.{AreFit, states_of};
+    ghost use Rattle.graph_check.specs.Turns.{AreFit};
     ghost use Rattle.graph_check.specs.Shown.{held_progress};
 
     ghost view = { held_progress };
 
-    ghost invariant = { λ p. AreFit p.walk.table p.walk.cores (states_of p.states.items)
+    ghost invariant = { λ p. AreFit p.walk.table p.walk.cores p.states.items
         × (length p.hulls ≡ length p.walk.table.jobs)
         × (length p.jobs.spans.items ≡ length p.jobs.marks.items)
         × (p.level < 2 ^ 62) };
@@ -317,10 +318,10 @@ impl<'a> Progress<'a> {
     }
 
     // The state of a root line, or K5 or K3.
-    fn root_state(&self, pairs: &[Pair]) -> Result<State, Broken>
+    fn root_state(&self, pairs: &[Pair]) -> Result<LevelState, Broken>
         requires fits { FitsPairs second_version pairs.now }
-        ensures state { IfOk result (λ s. s.state ≡ root_from self.now.table pairs.now) }
-        ensures fit { IfOk result (λ s. IsFit self.now.table self.now.cores s.state) }
+        ensures state { IfOk result (λ s. s.state.state ≡ root_from self.now.table pairs.now) }
+        ensures fit { IfOk result (λ s. IsLevelState self.now.table self.now.cores s) }
         ensures passes { OnOk result (first_broken (due_checks self.now.table self.now.cores
             self.now.progress dues.Root (form.Root pairs.now)) ≡ None) }
         ensures clause { IfErr result (IfClause (λ clause. first_broken (due_checks self.now.table
@@ -328,6 +329,7 @@ impl<'a> Progress<'a> {
     {
         root_is_shaped();
         shaped_are_comparable();
+        fronts_are_handed_down();
         let table = self.walk.table();
         let cores = self.walk.cores();
         let Ok(set) = JobSet::empty(self.alloc, table.len()) else {
@@ -345,7 +347,7 @@ impl<'a> Progress<'a> {
         if !state.covers(&root) {
             return Err(Broken::Clause(Clause::K3));
         }
-        Ok(state)
+        Ok(LevelState { state, front: 0 })
     }
 
     // Takes the root line.
@@ -367,12 +369,12 @@ impl<'a> Progress<'a> {
     }
 
     // Appends a state to those of the level.
-    fn add_state(&mut self, state: State) -> Result<(), Broken>
-        requires { IsFit self.old.table self.old.cores state.state }
+    fn add_state(&mut self, state: LevelState) -> Result<(), Broken>
+        requires { IsLevelState self.old.table self.old.cores state }
         ensures added { OnOk result (self.new ≡ record self.old {
           progress =
               with_due self.old.table (record self.old.progress {
-                states = self.old.progress.states ++ state.state ∷ [];
+                states = self.old.progress.states ++ state.state.state ∷ [];
               });
         }) }
         ensures memory { IfErr result (λ e. e ≡ broken.Memory) }
@@ -387,25 +389,25 @@ impl<'a> Progress<'a> {
         Ok(())
     }
 
-    // The jobs of a state with that parent, which adds that job, or K4 where the parent has no such candidate.
-    fn child_set(&self, parent: u64, job: u64) -> Result<JobSet, Broken>
-        ensures { IsChildSet self.now.table self.now.progress.before parent job result }
+    // The parent that a state line names and the job that it adds, if the parent is there and has the
+    // job for a candidate.
+    fn origin(&self, parent: u64, job: u64) -> Option<(&LevelState, JobNo)>
+        ensures some { IfSome result (λ o. IsOrigin self.now.table self.now.cores
+            self.now.progress.before parent job o.0.now o.1) }
+        ensures none { IfNone result
+            (has_candidate self.now.table self.now.progress.before parent job ≡ false) }
     {
         let table = self.walk.table();
         let Some(parent) = self.walk.state(parent) else {
-            return Err(Broken::Clause(Clause::K4));
+            return None;
         };
         let Some(job) = job_number(table, job) else {
-            return Err(Broken::Clause(Clause::K4));
+            return None;
         };
-        if !candidate(table, parent.set(), job) {
-            return Err(Broken::Clause(Clause::K4));
+        if !candidate(table, parent.state.set(), job) {
+            return None;
         }
-        let Ok(mut set) = parent.set().copy(self.alloc) else {
-            return Err(Broken::Memory);
-        };
-        set.add(job);
-        Ok(set)
+        Some((parent, job))
     }
 
     // The state of a state line, or K4 or K5.
@@ -416,31 +418,42 @@ impl<'a> Progress<'a> {
         pairs: &[Pair],
         ends: &[EndOf],
         last: &[u64],
-    ) -> Result<State, Broken>
+    ) -> Result<LevelState, Broken>
         requires fits { FitsState second_version parent job pairs.now ends.now last.now }
-        ensures state { IfOk result (λ s. s.state ≡ state_from self.now.table
+        ensures state { IfOk result (λ s. s.state.state ≡ state_from self.now.table
             (child_members self.now.progress.before parent job) pairs.now ends.now last.now) }
         ensures parent { OnOk result (IsTrue (has_candidate self.now.table self.now.progress.before parent job)) }
-        ensures fit { IfOk result (λ s. IsFit self.now.table self.now.cores s.state) }
+        ensures fit { IfOk result (λ s. IsLevelState self.now.table self.now.cores s) }
         ensures passes { OnOk result (first_broken (due_checks self.now.table self.now.cores
             self.now.progress dues.State (form.State parent job pairs.now ends.now last.now)) ≡ None) }
         ensures clause { IfErr result (IfClause (λ clause. first_broken (due_checks self.now.table
             self.now.cores self.now.progress dues.State (form.State parent job pairs.now ends.now last.now))
             ≡ Some clause)) }
     {
-        let set = match self.child_set(parent, job) {
-            Ok(set) => set,
-            Err(broken) => return Err(broken),
+        fronts_are_handed_down();
+        let Some(origin) = self.origin(parent, job) else {
+            return Err(Broken::Clause(Clause::K4));
         };
         let table = self.walk.table();
         let cores = self.walk.cores();
-        let Ok(found) = state_of_line(self.alloc, table, cores, set, pairs, ends, last) else {
+        let (from, number) = origin;
+        let Ok(found) = child_of_line(
+            self.alloc,
+            table,
+            cores,
+            &from.state,
+            number,
+            pairs,
+            ends,
+            last,
+        ) else {
             return Err(Broken::Memory);
         };
         let Some(state) = found else {
             return Err(Broken::Clause(Clause::K5));
         };
-        Ok(state)
+        let front = front_from(table, state.set(), from.front);
+        Ok(LevelState { state, front })
     }
 
     // Takes a state line.
@@ -482,10 +495,10 @@ impl<'a> Progress<'a> {
         if !turn.has_window(est, lst) {
             return Some(Clause::K7);
         }
-        let Some(state) = self.states.get(to as usize) else {
+        let Some(entry) = self.states.get(to as usize) else {
             return Some(Clause::K8);
         };
-        if !self.walk.is_covered_by(state) {
+        if !self.walk.is_covered_by(&entry.state) {
             return Some(Clause::K8);
         }
         None

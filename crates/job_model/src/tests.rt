@@ -1,6 +1,7 @@
+ghost use Rattle.std.specs.Prelude.{◌≡◌, length};
+
 use crate::{Job, JobNo, JobTable, Scenario, TableFault, ranks_order_jobs};
-use std::alloc::{AllocError, Global};
-use std::test::Fail;
+use std::alloc::Global;
 
 // Two jobs, of which the less urgent may block.
 fn jobs() -> [Job; 2] {
@@ -17,32 +18,37 @@ fn table_of(alloc: Global, rows: &[Job]) -> Result<JobTable, TableFault> {
     JobTable::from_rows(alloc, rows)
 }
 
-// Why that many jobs of one task are no table.
-fn fault_of_many(alloc: Global, count: u64) -> Option<TableFault> {
-    let [first, _] = jobs();
-    let mut rows = Vec::new(alloc);
-    for job in 0..count {
-        if rows.push(Job { job, ..first }).is_err() {
-            return Some(TableFault::Memory);
-        }
-    }
-    JobTable::from_rows(alloc, rows).err()
+// Whether the table finds the two jobs, and no third.
+fn finds_both(table: &JobTable) -> bool {
+    table.find(1, 1) == Some(JobNo(0))
+        && table.find(2, 1) == Some(JobNo(1))
+        && table.find(1, 9).is_none()
+}
+
+// Whether the first of the two jobs is the more urgent.
+fn orders_both(table: &JobTable) -> bool {
+    table.len() == 2
+        && table.urgent(JobNo(0), JobNo(1))
+        && !table.urgent(JobNo(1), JobNo(0))
+        && *table.job(JobNo(1)) == jobs()[1]
+}
+
+// Whether no job waits for another.
+fn has_no_edges(table: &JobTable) -> bool {
+    table.edges().is_empty() && table.preds(JobNo(0)).is_empty() && table.succs(JobNo(0)).is_empty()
 }
 
 #[test]
-fn looks_up_jobs(rt: HostRuntime) -> Result<(), Fail> {
-    let table = table_of(rt.alloc(), &jobs())?;
-    assert_eq!(rt; table.len(), 2);
-    assert_eq!(rt; table.find(1, 1), Some(JobNo(0)));
-    assert_eq!(rt; table.find(2, 1), Some(JobNo(1)));
-    assert_eq!(rt; table.find(1, 9), None);
-    assert!(rt; table.urgent(JobNo(0), JobNo(1)));
-    assert!(rt; !table.urgent(JobNo(1), JobNo(0)));
-    assert_eq!(rt; *table.job(JobNo(1)), jobs()[1]);
-    assert!(rt; table.edges().is_empty());
-    assert!(rt; table.preds(JobNo(0)).is_empty());
-    assert!(rt; table.succs(JobNo(0)).is_empty());
-    Ok(())
+fn looks_up_jobs(rt: HostRuntime) {
+    let Ok(table) = table_of(rt.alloc(), &jobs()) else {
+        panic!(rt; "the rows are a table");
+    };
+    let holds = [
+        finds_both(&table),
+        orders_both(&table),
+        has_no_edges(&table),
+    ];
+    assert_eq!(rt; holds, [true, true, true]);
 }
 
 #[test]
@@ -53,79 +59,76 @@ fn reads_rows_as_files_have_them(rt: HostRuntime) {
 }
 
 #[test]
-fn orders_jobs_by_release(rt: HostRuntime) -> Result<(), Fail> {
+fn orders_jobs_by_release(rt: HostRuntime) {
     let [first, second] = jobs();
     let late = Job { rmin: 1, ..first };
     let last = Job { task: 3, ..first };
-    let table = table_of(rt.alloc(), &[late, second, last])?;
+    let Ok(table) = table_of(rt.alloc(), &[late, second, last]) else {
+        panic!(rt; "the rows are a table");
+    };
     let order = [(0, JobNo(1)), (0, JobNo(2)), (1, JobNo(0))];
     assert_eq!(rt; table.by_release(), order.as_slice());
-    Ok(())
 }
 
 // Whether the second job takes these costs and this deadline; and it, as it then is.
-fn retimed(alloc: Global, cmin: u64, cmax: u64, deadline: u64) -> Result<(bool, Job), TableFault> {
-    let mut table = table_of(alloc, &jobs())?;
+fn retimed(alloc: Global, [cmin, cmax, deadline]: [u64; 3]) -> Option<(bool, Job)> {
+    let Ok(mut table) = table_of(alloc, &jobs()) else {
+        return None;
+    };
     if table.len() != 2 {
-        return Err(TableFault::TooMany);
+        return None;
     }
     let kept = table.retime(JobNo(1), cmin, cmax, deadline);
-    Ok((kept, *table.job(JobNo(1))))
+    Some((kept, *table.job(JobNo(1))))
 }
 
 #[test]
-fn retimes_jobs(rt: HostRuntime) -> Result<(), Fail> {
-    let alloc = rt.alloc();
+fn retimes_jobs(rt: HostRuntime) {
     let [_, second] = jobs();
     let longer = Job::from_row([2, 1, 0, 0, 4, 70_368_744_177_663, 3, 2]);
-    assert_eq!(rt; retimed(alloc, 4, 70_368_744_177_663, 3)?, (true, longer));
-    assert_eq!(rt; retimed(alloc, 4, 70_368_744_177_664, 3)?, (false, second));
-    assert_eq!(rt; retimed(alloc, 4, 3, 3)?, (false, second));
-    assert_eq!(rt; retimed(alloc, 0, 3, 3)?, (false, second));
-    Ok(())
+    for (times, want) in [
+        ([4, 70_368_744_177_663, 3], (true, longer)),
+        ([4, 70_368_744_177_664, 3], (false, second)),
+        ([4, 3, 3], (false, second)),
+        ([0, 3, 3], (false, second)),
+    ] {
+        assert_eq!(rt; retimed(rt.alloc(), times), Some(want));
+    }
+}
+
+// How many jobs are more urgent than each of the seven.
+fn ranks(table: &JobTable) -> Option<[u16; 7]> {
+    if table.len() != 7 {
+        return None;
+    }
+    Some([
+        table.rank(JobNo(0)),
+        table.rank(JobNo(1)),
+        table.rank(JobNo(2)),
+        table.rank(JobNo(3)),
+        table.rank(JobNo(4)),
+        table.rank(JobNo(5)),
+        table.rank(JobNo(6)),
+    ])
 }
 
 #[test]
-fn breaks_ties_by_ids(rt: HostRuntime) -> Result<(), Fail> {
-    let [first, _] = jobs();
-    let last = Job {
-        task: u64::MAX,
-        job: u64::MAX,
-        deadline: u64::MAX,
-        priority: u64::MAX,
-        ..first
-    };
-    let urgent = Job {
-        job: u64::MAX - 1,
-        ..last
-    };
-    let table = table_of(rt.alloc(), &[last, urgent])?;
-    assert_eq!(rt; table.len(), 2);
-    assert!(rt; table.urgent(JobNo(1), JobNo(0)));
-    Ok(())
-}
-
-#[test]
-fn ranks_jobs_by_urgency(rt: HostRuntime) -> Result<(), Fail> {
+fn ranks_jobs_by_urgency(rt: HostRuntime) {
+    let most = u64::MAX;
     let rows = [
         Job::from_row([1, 3, 0, 1, 1, 2, 5, 2]),
         Job::from_row([2, 1, 0, 1, 1, 2, 5, 1]),
         Job::from_row([1, 2, 0, 1, 1, 2, 5, 1]),
         Job::from_row([1, 1, 0, 1, 1, 2, 5, 1]),
         Job::from_row([1, 0, 0, 1, 1, 2, 5, 2]),
+        Job::from_row([most, most, 0, 1, 1, 2, most, most]),
+        Job::from_row([most, most - 1, 0, 1, 1, 2, most, most]),
     ];
-    let table = table_of(rt.alloc(), &rows)?;
-    assert_eq!(rt; table.len(), 5);
-    let ranks = [
-        table.rank(JobNo(0)),
-        table.rank(JobNo(1)),
-        table.rank(JobNo(2)),
-        table.rank(JobNo(3)),
-        table.rank(JobNo(4)),
-    ];
-    assert_eq!(rt; ranks, [4, 2, 1, 0, 3]);
+    let Ok(table) = table_of(rt.alloc(), &rows) else {
+        panic!(rt; "the rows are a table");
+    };
+    assert_eq!(rt; ranks(&table), Some([4, 2, 1, 0, 3, 6, 5]));
     ranks_order_jobs();
-    Ok(())
 }
 
 // Why these rows are refused.
@@ -135,82 +138,100 @@ fn fault_of(alloc: Global, rows: &[Job]) -> Option<TableFault> {
 
 #[test]
 fn names_the_first_broken_rule(rt: HostRuntime) {
-    let alloc = rt.alloc();
     let [first, second] = jobs();
     let free = Job { cmin: 0, ..second };
+    let dear = Job { cmin: 4, ..second };
     let late = Job {
         rmin: 3,
         rmax: 2,
         ..first
     };
-    let dear = Job { cmin: 4, ..second };
-    assert_eq!(rt;
-        fault_of(alloc, &[first, free]),
-        Some(TableFault::ZeroCost(2))
-    );
-    assert_eq!(rt;
-        fault_of(alloc, &[late, free]),
-        Some(TableFault::SpanReversed(1, 3))
-    );
-    assert_eq!(rt;
-        fault_of(alloc, &[first, dear]),
-        Some(TableFault::SpanReversed(2, 5))
-    );
-    assert_eq!(rt;
-        fault_of(alloc, &[first, second, first, first]),
-        Some(TableFault::Twice(3, 1))
-    );
-}
-
-#[test]
-fn keeps_the_limits(rt: HostRuntime) {
-    let alloc = rt.alloc();
-    let [first, _] = jobs();
-    let last = Job {
-        rmax: 281_474_976_710_655,
-        cmax: 70_368_744_177_663,
-        ..first
-    };
-    let late = Job {
+    // The latest release and the greatest cost that a row may have, and one more.
+    let last = Job::from_row([1, 1, 0, 281_474_976_710_655, 1, 70_368_744_177_663, 5, 1]);
+    let too_late = Job {
         rmax: 281_474_976_710_656,
         ..last
     };
-    let dear = Job {
+    let too_dear = Job {
         cmax: 70_368_744_177_664,
         ..last
     };
-    assert_eq!(rt; fault_of(alloc, &[last]), None);
-    assert_eq!(rt; fault_of(alloc, &[late]), Some(TableFault::OverLimit(1, 4)));
-    assert_eq!(rt; fault_of(alloc, &[dear]), Some(TableFault::OverLimit(1, 6)));
+    let cases: [(&[Job], Option<TableFault>); 7] = [
+        (&[first, free], Some(TableFault::ZeroCost(2))),
+        (&[late, free], Some(TableFault::SpanReversed(1, 3))),
+        (&[first, dear], Some(TableFault::SpanReversed(2, 5))),
+        (
+            &[first, second, first, first],
+            Some(TableFault::Twice(3, 1)),
+        ),
+        (&[last], None),
+        (&[too_late], Some(TableFault::OverLimit(1, 4))),
+        (&[too_dear], Some(TableFault::OverLimit(1, 6))),
+    ];
+    for (rows, want) in cases {
+        assert_eq!(rt; fault_of(rt.alloc(), rows), want);
+    }
+}
+
+// Why that many jobs of one task are no table.
+fn fault_of_many(alloc: Global, count: u64) -> Option<TableFault> {
+    let mut rows = Vec::new(alloc);
+    for job in 0..count {
+        if rows
+            .push(Job::from_row([1, job, 0, 1, 1, 2, 5, 1]))
+            .is_err()
+        {
+            return Some(TableFault::Memory);
+        }
+    }
+    JobTable::from_rows(alloc, rows).err()
 }
 
 #[test]
 fn keeps_the_number_of_jobs(rt: HostRuntime) {
-    let alloc = rt.alloc();
-    assert_eq!(rt; fault_of_many(alloc, 16_384), None);
-    assert_eq!(rt; fault_of_many(alloc, 16_385), Some(TableFault::TooMany));
+    assert_eq!(rt; fault_of_many(rt.alloc(), 16_384), None);
+    assert_eq!(rt;
+        fault_of_many(rt.alloc(), 16_385),
+        Some(TableFault::TooMany)
+    );
 }
 
-// Whether these releases and costs are a scenario of the table.
-fn fits(alloc: Global, table: &JobTable, rows: &[(u64, u64)]) -> Result<bool, AllocError> {
-    let rows = rows.to_vec(alloc)?;
-    Ok(Scenario::new(table, rows).is_some())
+// The release of the first job and the cost of the second.
+fn values(scenario: &Scenario) -> (u64, u64)
+    requires { length scenario.now ≡ 2 }
+{
+    (scenario.release(JobNo(0)), scenario.cost(JobNo(1)))
+}
+
+// These in the scenario of these rows for two jobs, if it is one; none of them where memory runs out.
+fn values_of(alloc: Global, table: &JobTable, rows: &[(u64, u64)]) -> Option<Option<(u64, u64)>>
+    requires { length table.now.jobs ≡ 2 }
+{
+    let Ok(rows) = rows.to_vec(alloc) else {
+        return None;
+    };
+    match Scenario::new(table, rows) {
+        Some(scenario) => Some(Some(values(&scenario))),
+        None => Some(None),
+    }
 }
 
 #[test]
-fn keeps_scenarios_in_their_intervals(rt: HostRuntime) -> Result<(), Fail> {
-    let alloc = rt.alloc();
-    let table = table_of(alloc, &jobs())?;
-    let Some(scenario) = Scenario::new(&table, [(1, 2), (0, 3)].to_vec(alloc)?) else {
-        panic!(rt; "the scenario fits");
+fn keeps_scenarios_in_their_intervals(rt: HostRuntime) {
+    let Ok(table) = table_of(rt.alloc(), &jobs()) else {
+        panic!(rt; "the rows are a table");
     };
-    assert_eq!(rt; scenario.release(JobNo(0)), 1);
-    assert_eq!(rt; scenario.cost(JobNo(1)), 3);
-    assert!(rt; fits(alloc, &table, &[(0, 1), (0, 2)])?);
-    assert!(rt; !fits(alloc, &table, &[(0, 1)])?);
-    assert!(rt; !fits(alloc, &table, &[(2, 1), (0, 2)])?);
-    assert!(rt; !fits(alloc, &table, &[(0, 1), (1, 2)])?);
-    assert!(rt; !fits(alloc, &table, &[(0, 0), (0, 2)])?);
-    assert!(rt; !fits(alloc, &table, &[(0, 1), (0, 4)])?);
-    Ok(())
+    assert_eq!(rt; table.len(), 2);
+    let cases: [(&[(u64, u64)], Option<(u64, u64)>); 7] = [
+        (&[(1, 2), (0, 3)], Some((1, 3))),
+        (&[(0, 1), (0, 2)], Some((0, 2))),
+        (&[(0, 1)], None),
+        (&[(2, 1), (0, 2)], None),
+        (&[(0, 1), (1, 2)], None),
+        (&[(0, 0), (0, 2)], None),
+        (&[(0, 1), (0, 4)], None),
+    ];
+    for (rows, want) in cases {
+        assert_eq!(rt; values_of(rt.alloc(), &table, rows), Some(want));
+    }
 }

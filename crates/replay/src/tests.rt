@@ -1,78 +1,70 @@
-ghost use Rattle.std.specs.Prelude.{◌≤◌};
-ghost use Rattle.job_model.specs.declared.limits.TheConstants.{MOST_CORES};
-
 use crate::{replay, runs_exist};
-use job_model::Scenario;
+use job_model::{MOST_CORES, Scenario};
 use run_meaning::{Place, predecessors_come_earlier, starts_agree};
 use small_tables::build_table;
 use std::alloc::Global;
 
-// The places of the jobs of these rows with these releases and costs.
-fn places_of(
+// Whether the jobs of these rows, with these releases and costs, have these places.
+fn have_places(
     alloc: Global,
     rows: &[[u64; 8]],
-    scenario: &[(u64, u64)],
+    values: &[(u64, u64)],
     cores: u16,
-) -> Option<Vec<Place>>
-    requires some_core { 1 ≤ cores }
-    requires few_cores { cores ≤ MOST_CORES }
-{
+    want: &[Place],
+) -> Option<bool> {
+    if cores < 1 || MOST_CORES < cores {
+        return None;
+    }
     let table = build_table(alloc, rows, &[]).ok()?;
-    let scenario = Scenario::new(&table, scenario.to_vec(alloc).ok()?)?;
+    let scenario = Scenario::new(&table, values.to_vec(alloc).ok()?)?;
     let schedule = replay(alloc, &table, cores, &scenario).ok()?;
-    Some(schedule.places)
+    Some(schedule.places.as_slice() == want)
 }
 
 fn at(start: u64, core: u16) -> Place {
     Place { start, core }
 }
 
-#[test]
-fn is_blocked_by_a_less_urgent_job(rt: HostRuntime) {
-    let rows = [[1, 1, 0, 1, 1, 2, 5, 1], [2, 1, 0, 0, 2, 3, 9, 2]];
-    let Some(places) = places_of(rt.alloc(), &rows, &[(1, 2), (0, 3)], 1) else {
-        panic!(rt; "the jobs have a schedule");
-    };
-    assert_eq!(rt; places.as_slice(), [at(3, 0), at(0, 0)].as_slice());
-}
+// Rows, releases and costs, the number of cores, and the places.
+type Case<'a> = (&'a [[u64; 8]], &'a [(u64, u64)], u16, &'a [Place]);
 
 #[test]
-fn breaks_ties_by_ids(rt: HostRuntime) {
+fn dispatches_by_urgency_when_a_core_is_idle(rt: HostRuntime) {
     let most = u64::MAX;
-    let rows = [
+    let blocking = [[1, 1, 0, 1, 1, 2, 5, 1], [2, 1, 0, 0, 2, 3, 9, 2]];
+    let tied = [
         [most, most, 0, 9, 1, 9, most, 7],
         [most, most - 1, 0, 9, 1, 9, most, 7],
     ];
-    let Some(places) = places_of(rt.alloc(), &rows, &[(0, 1), (0, 1)], 1) else {
-        panic!(rt; "the jobs have a schedule");
-    };
-    assert_eq!(rt; places.as_slice(), [at(1, 0), at(0, 0)].as_slice());
-}
-
-#[test]
-fn takes_the_lowest_idle_core(rt: HostRuntime) {
-    let rows = [
+    let three = [
         [1, 1, 0, 9, 1, 9, 99, 1],
         [2, 1, 0, 9, 1, 9, 99, 2],
         [3, 1, 0, 9, 1, 9, 99, 3],
     ];
-    let Some(busy) = places_of(rt.alloc(), &rows, &[(0, 4), (0, 1), (0, 2)], 2) else {
-        panic!(rt; "the jobs have a schedule");
-    };
-    assert_eq!(rt; busy.as_slice(), [at(0, 0), at(0, 1), at(1, 1)].as_slice());
-    let Some(idle) = places_of(rt.alloc(), &rows, &[(0, 4), (0, 1), (5, 2)], 2) else {
-        panic!(rt; "the jobs have a schedule");
-    };
-    assert_eq!(rt; idle.as_slice(), [at(0, 0), at(0, 1), at(5, 0)].as_slice());
-}
-
-#[test]
-fn has_no_jobs(rt: HostRuntime) {
+    let cases: [Case<'_>; 5] = [
+        // The less urgent job blocks; of two of one priority that of the lower IDs comes first.
+        (&blocking, &[(1, 2), (0, 3)], 1, &[at(3, 0), at(0, 0)]),
+        (&tied, &[(0, 1), (0, 1)], 1, &[at(1, 0), at(0, 0)]),
+        // The lowest idle core is taken.
+        (
+            &three,
+            &[(0, 4), (0, 1), (0, 2)],
+            2,
+            &[at(0, 0), at(0, 1), at(1, 1)],
+        ),
+        (
+            &three,
+            &[(0, 4), (0, 1), (5, 2)],
+            2,
+            &[at(0, 0), at(0, 1), at(5, 0)],
+        ),
+        (&[], &[], 256, &[]),
+    ];
+    for (rows, values, cores, want) in cases {
+        let answer = have_places(rt.alloc(), rows, values, cores, want);
+        assert_eq!(rt; answer, Some(true), "{rows:?} {values:?}");
+    }
     starts_agree();
     predecessors_come_earlier();
     runs_exist();
-    let Some(places) = places_of(rt.alloc(), &[], &[], 256) else {
-        panic!(rt; "a table without jobs has a schedule");
-    };
-    assert_eq!(rt; places.len(), 0);
 }

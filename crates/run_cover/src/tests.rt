@@ -1,7 +1,7 @@
 //! Worked runs, prefix by prefix.
 
 ghost use Rattle.std.specs.List.{list_all};
-ghost use Rattle.std.specs.Prelude.{◌≡◌, [], ◌∷◌, IfSome, IsTrue, nat_le};
+ghost use Rattle.std.specs.Prelude.{◌≡◌, ◌≤◌, [], ◌∷◌, IfSome, IsTrue, nat_le};
 ghost use Rattle.job_model.proofs.Tables.{table_b};
 ghost use Rattle.job_model.specs.Scenario.{Fits};
 ghost use Rattle.run_meaning.specs.Legal.{Legal};
@@ -107,14 +107,22 @@ fn on_one_core(alloc: Global) -> Option<Run>
     Some(run)
 }
 
+// Adds the first jobs, so many.
+fn add_first(set: &mut JobSet, count: u16)
+    requires { count ≤ set.old.size }
+    ensures { set.new.size ≡ set.old.size }
+{
+    for no in 0..count {
+        set.add(JobNo(no));
+    }
+}
+
 // The set of the first jobs, so many.
 fn first_of(alloc: Global, size: u16, count: u16) -> Option<JobSet>
     ensures { IfSome result (λ set. set.size ≡ size) }
 {
     let mut set = JobSet::empty(alloc, size).ok()?;
-    for no in 0..count.min(size) {
-        set.add(JobNo(no));
-    }
+    add_first(&mut set, count.min(size));
     Some(set)
 }
 
@@ -152,6 +160,40 @@ fn ends_of(alloc: Global, latest: u64) -> Option<Ends>
     Some(ends)
 }
 
+// When cores are possibly and certainly free.
+#[derive(Drop)]
+struct Bars {
+    low: Avail,
+    high: Avail,
+}
+
+// The bars of these times, if they may stand in a state.
+fn bars_of(alloc: Global, low: &[u64], high: &[u64]) -> Option<Bars>
+    ensures low { IfSome result (λ b. IsTrue (list_all (λ t. nat_le t MOST_TIME) b.low)) }
+    ensures high { IfSome result (λ b. IsTrue (list_all (λ t. nat_le t MOST_TIME) b.high)) }
+{
+    let low = avail(alloc, low)?;
+    let high = avail(alloc, high)?;
+    Some(Bars { low, high })
+}
+
+// The jobs that have started, and those of them that are last on their cores.
+#[derive(Drop)]
+struct Sets {
+    started: JobSet,
+    last: JobSet,
+}
+
+// The sets of the first jobs, so many.
+fn sets_of(alloc: Global, size: u16, started: u16, last: u16) -> Option<Sets>
+    ensures started { IfSome result (λ s. s.started.size ≡ size) }
+    ensures last { IfSome result (λ s. s.last.size ≡ size) }
+{
+    let started = first_of(alloc, size, started)?;
+    let last = first_of(alloc, size, last)?;
+    Some(Sets { started, last })
+}
+
 // What a state says: the first jobs, so many, have started; from when on cores are possibly and
 // certainly free; by when the first job finishes, or 0 where no job waits for it; and that the first
 // of them, so many, are last on their cores.
@@ -162,12 +204,12 @@ fn state_of(alloc: Global, table: &JobTable, cores: u16, parts: Parts<'_>) -> Op
     ensures { IfSome result (λ s. Shaped table.now cores s.state) }
 {
     let (started, low, high, latest, last) = parts;
-    let set = first_of(alloc, table.len(), started)?;
-    let last = first_of(alloc, table.len(), last)?;
     let ends = ends_of(alloc, latest)?;
-    let low = avail(alloc, low)?;
-    let high = avail(alloc, high)?;
-    State::from_parts(table, cores, set, low, high, ends, last)
+    let bars = bars_of(alloc, low, high)?;
+    let sets = sets_of(alloc, table.len(), started, last)?;
+    let Bars { low, high } = bars;
+    let Sets { started, last } = sets;
+    State::from_parts(table, cores, started, low, high, ends, last)
 }
 
 // Whether the state of these parts covers the first jobs of the run, so many.
@@ -175,10 +217,10 @@ fn covers(alloc: Global, run: &Run, cores: u16, count: u16, parts: Parts<'_>) ->
     requires fits { Fits run.now.table run.now.scenario }
     requires legal { Legal run.now.table cores run.now.scenario run.now.schedule }
 {
-    let state = state_of(alloc, &run.table, cores, parts)?;
     if count > run.table.len() {
         return None;
     }
+    let state = state_of(alloc, &run.table, cores, parts)?;
     Some(replayed(
         &run.table,
         cores,

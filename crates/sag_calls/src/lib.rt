@@ -2,8 +2,16 @@
 #![tactic(auto)]
 
 #[cfg(test)]
+mod analyse_calls;
+#[cfg(test)]
 mod calls;
+#[cfg(test)]
+mod check_calls;
+#[cfg(test)]
+mod convert_calls;
 #[cfg(test)]
 mod fault_calls;
 #[cfg(test)]
 mod replay_calls;
+#[cfg(test)]
+mod report_calls;

@@ -1,2 +1,3 @@
+mod PourLemmas
 pub mod ReadLemmas
 pub mod WriteLemmas

@@ -5,7 +5,8 @@
 --   ReadsBytes  a read gave bytes
 --   Splits      a file is what was read of it, and what is left
 --   HasRead     these bytes of the current file were read
-use Rattle.std.specs.Prelude.{ℕ, ◌≡◌, ◌<◌, ◌≤◌, ◌++◌, List, [], None, Some, ⊤}
+--   HandsOn     so many bytes more of it were read, and handed on
+use Rattle.std.specs.Prelude.{ℕ, ◌≡◌, ◌<◌, ◌≤◌, ◌++◌, List, [], length, None, Some, ⊤}
 use Rattle.std.specs.Option.{option_map}
 use Rattle.std.specs.declared.option.Option.{Option}
 use Rattle.std.specs.Io.KnownBytes.{Consumes, IsAtEnd}
@@ -51,3 +52,10 @@ pub record HasRead (old new : SeenFiles) (name list : List ℕ) : Type 0 where
   pub blamed : new.blamed ≡ old.blamed
   pub later : old.faults ≤ new.faults
   pub bytes : Splits old.contents new.left name list
+
+-- so many bytes more of the current file were read, and what has taken bytes before takes them behind those
+pub record HandsOn {T : Type 0} (n : ℕ) (old new : SeenFiles) (Before After : T → List ℕ → Type 0) : Type 0 where
+  pub given : List ℕ
+  pub count : length given ≡ n
+  pub read : (start : SeenFiles) (name list : List ℕ) → HasRead start old name list → HasRead start new name (list ++ given)
+  pub takes : (start : T) (bytes : List ℕ) → Before start bytes → After start (bytes ++ given)

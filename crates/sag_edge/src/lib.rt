@@ -4,6 +4,7 @@
 mod machine;
 mod memory;
 mod names;
+mod pouring;
 mod reading;
 mod sure;
 #[cfg(test)]
@@ -13,6 +14,7 @@ mod writing;
 pub use machine::{RealFiles, StdSink};
 pub use memory::{MemFiles, MemSink};
 pub use names::{FileBytes, FileName};
+pub use pouring::{TakePiece, pour};
 pub use reading::{Failed, Files, ReadAnswer, read_all};
 pub use sure::{SureFiles, SureSink};
 pub use writing::{Sink, write_whole};

@@ -1,8 +1,10 @@
+ghost use Rattle.std.specs.Prelude.{◌≡◌, ◌++◌, vec_len};
+
 use crate::{
     Failed, FileBytes, FileName, Files, MemFiles, MemSink, ReadAnswer, RealFiles, Sink, StdSink,
-    SureFiles, SureSink, read_all, write_whole,
+    SureFiles, SureSink, TakePiece, pour, read_all, write_whole,
 };
-use std::alloc::Global;
+use std::alloc::{AllocError, Global};
 use std::test::Fail;
 
 const TEXT: &str = "sixteen bytes and a few more";
@@ -46,6 +48,50 @@ fn reads_whole_files(rt: HostRuntime) -> Result<(), Fail> {
             (Err(got), Err(want)) => assert_eq!(rt; got, want, "{name} {limit} {failing}"),
             _ => assert!(rt; false, "{name} {limit} {failing}"),
         }
+    }
+    Ok(())
+}
+
+/// Keeps the pieces that it takes, one behind the other.
+#[derive(Drop)]
+struct Pieces {
+    list: Vec<u8>,
+}
+
+impl TakePiece for Pieces {
+    ghost count = { λ pieces. vec_len pieces.list };
+
+    ghost takes = { λ start bytes now. now.list.items ≡ start.list.items ++ bytes };
+
+    fn take_piece(&mut self, piece: &[u8]) -> Result<(), AllocError> {
+        self.list.extend_from_slice(piece)?;
+        Ok(())
+    }
+}
+
+#[test]
+fn hands_on_whole_files(rt: HostRuntime) -> Result<(), Fail> {
+    let alloc = rt.alloc();
+    let cases = [
+        (28, 9, Ok(()), 28),
+        (27, 9, Err(ReadAnswer::TooLong), 28),
+        (100, 0, Err(ReadAnswer::ReadFault), 0),
+        (100, 2, Err(ReadAnswer::ReadFault), 16),
+    ];
+    for (limit, failing, want, taken) in cases {
+        let mut faults = Vec::new(alloc);
+        faults.push((named(alloc, "a")?, failing))?;
+        let mut files = MemFiles::new(two_files(alloc)?, 16, faults);
+        let mut pieces = Pieces {
+            list: Vec::new(alloc),
+        };
+        let got = pour(alloc, &mut files, named(alloc, "a")?, limit, &mut pieces);
+        assert_eq!(rt; got, want, "{limit} {failing}");
+        assert_eq!(rt; pieces.list.len(), taken, "{limit} {failing}");
+        assert!(rt;
+            TEXT.as_bytes().starts_with(&pieces.list),
+            "{limit} {failing}"
+        );
     }
     Ok(())
 }

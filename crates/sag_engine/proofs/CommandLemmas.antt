@@ -2,22 +2,31 @@
 --     CommandLaws       what other crates prove of words, files and runs
 --     command_reads     the files that a command reads are those that its words name
 --     asked_cores       words ask for a number of cores that a schedule may have
+--     asked_budget      words ask for a budget that a graph may have
 --     command_one       the files of a command fix its work, or its refusal
 --     one_reply         its work has one reply
 use Rattle.std.proofs.Common.{◌≡◌, ◌≤◌, ◌∷◌, lit≤, None, Some, ℕ, List, [], Option}
 use Rattle.sag_edge.specs.Contents.{Contents}
 use Rattle.sag_texts.specs.declared.fault.FileKind.{FileKind}
 use Rattle.sag_words.specs.declared.command.Command.{Command}
-use Rattle.sag_words.specs.declared.command.Command.TheVariants.{Replay}
+use Rattle.sag_words.specs.declared.command.Command.TheVariants.{Analyse, Check, Replay, Report, Convert}
 use Rattle.sag_words.specs.Laws.{OneCommand}
-use Rattle.sag_words.specs.Numbers.{GivesCores}
+use Rattle.sag_words.specs.Numbers.{GivesBudget, GivesCores}
 use Rattle.sag_words.specs.Words.{Asks, WordsOf}
 use Rattle.job_model.specs.declared.limits.TheConstants.{MOST_CORES}
+use Rattle.sag_graph.specs.declared.TheConstants.{MOST_BUDGET}
 use Rattle.run_meaning.specs.Laws.{OneRun}
 use Rattle.sag_engine.specs.Plan.{ReadsNext}
 use Rattle.sag_engine.specs.Work.{IsAmongFiles, Reply}
-use Rattle.sag_engine.specs.Commands.{HasCores, command_plan, files_of}
+use Rattle.sag_engine.specs.Commands.{HasBudget, HasCores, command_plan, files_of}
 use Rattle.sag_engine.specs.RunEnds.{Gives}
+use Rattle.sag_engine.proofs.AnalyseLemmas.{analyse_one, analyse_reads, one_analysis_reply}
+use Rattle.sag_engine.proofs.CertificateLemmas.{CertificateLaws}
+use Rattle.cert_check.specs.AnswerTexts.{yes_text}
+use Rattle.sag_engine.specs.Report.{report_bytes}
+use Rattle.sag_engine.specs.Work.Work.{Checks, Reports}
+use Rattle.sag_engine.proofs.CertifiedLemmas.{certified_one, certified_reads, one_certified_reply}
+use Rattle.sag_engine.proofs.ConvertLemmas.{ConversionLaws, convert_one, convert_reads, one_convert_reply}
 use Rattle.sag_engine.proofs.OneJudgement.{FileLaws}
 use Rattle.sag_engine.proofs.OnePlan.{IsOne}
 use Rattle.sag_engine.proofs.ReplayLemmas.{one_run_reply, replay_one, replay_reads}
@@ -26,28 +35,64 @@ use Rattle.sag_engine.proofs.ReplayLemmas.{one_run_reply, replay_one, replay_rea
 pub record CommandLaws : Type 0 where
   pub one_command : OneCommand
   pub files : FileLaws
+  pub certificates : CertificateLaws
+  pub conversions : ConversionLaws
   pub one_run : OneRun
 
 pub command_reads : (c : Command) (m : Option Contents) (k : FileKind) (n : List ℕ) → ReadsNext (command_plan c) m k n → IsAmongFiles (files_of c) k n
+command_reads (Analyse jobs prec cores budget) m k n h = analyse_reads jobs prec cores budget m k n h
+command_reads (Check jobs cert prec cores) m k n h = certified_reads Checks yes_text (λ table end reply is. is) jobs cert prec cores m k n h
 command_reads (Replay jobs scenario prec cores) m k n h = replay_reads jobs scenario prec cores m k n h
+command_reads (Report jobs cert prec cores tasks) m k n h = certified_reads (Reports tasks) (report_bytes tasks) (λ table end reply is. is) jobs cert prec cores m k n h
+command_reads (Convert cert) m k n h = convert_reads cert m k n h
 
 -- the number of cores that an option gives
 cores_given : (text : Option (List ℕ)) (cores : ℕ) → GivesCores text cores → (1 ≤ cores) × (cores ≤ MOST_CORES)
 cores_given None cores given = rw given (lit≤ tt, lit≤ tt)
 cores_given (Some text) cores given = (given.1, given.2)
 
+-- the budget that an option gives
+budget_given : (text : Option (List ℕ)) (budget : ℕ) → GivesBudget text budget → (1 ≤ budget) × (budget ≤ MOST_BUDGET)
+budget_given None budget given = rw given (lit≤ tt, lit≤ tt)
+budget_given (Some text) budget given = (given.1, given.2)
+
 asked_of : (name : List ℕ) (rest : List (List ℕ)) (command : Command) → Asks name rest command → HasCores command
 unfolding Asks
+asked_of name rest (Analyse jobs prec cores budget) asked = cores_given _ cores asked.2.2
+asked_of name rest (Check jobs cert prec cores) asked = cores_given _ cores asked.2.3
 asked_of name rest (Replay jobs scenario prec cores) asked = cores_given _ cores asked.2.3
+asked_of name rest (Report jobs cert prec cores tasks) asked = cores_given _ cores asked.2.3
+asked_of name rest (Convert cert) asked = tt
 
 pub asked_cores : (words : List (List ℕ)) (command : Command) → WordsOf words command → HasCores command
 asked_cores [] command asked = absurd asked
 asked_cores (program ∷ []) command asked = absurd asked
 asked_cores (program ∷ name ∷ rest) command asked = asked_of name rest command asked
 
+budget_of : (name : List ℕ) (rest : List (List ℕ)) (command : Command) → Asks name rest command → HasBudget command
+unfolding Asks
+budget_of name rest (Analyse jobs prec cores budget) asked = budget_given _ budget asked.2.3
+budget_of name rest (Check jobs cert prec cores) asked = tt
+budget_of name rest (Replay jobs scenario prec cores) asked = tt
+budget_of name rest (Report jobs cert prec cores tasks) asked = tt
+budget_of name rest (Convert cert) asked = tt
+
+pub asked_budget : (words : List (List ℕ)) (command : Command) → WordsOf words command → HasBudget command
+asked_budget [] command asked = absurd asked
+asked_budget (program ∷ []) command asked = absurd asked
+asked_budget (program ∷ name ∷ rest) command asked = budget_of name rest command asked
+
 module _ (laws : CommandLaws) (contents : Contents) where
   pub command_one : (command : Command) → IsOne contents (command_plan command)
+  command_one (Analyse jobs prec cores budget) = analyse_one laws.files contents jobs prec cores budget
+  command_one (Check jobs cert prec cores) = certified_one Checks yes_text (λ table end reply is. is) laws.files laws.certificates contents jobs cert prec cores
   command_one (Replay jobs scenario prec cores) = replay_one laws.files contents jobs scenario prec cores
+  command_one (Report jobs cert prec cores tasks) = certified_one (Reports tasks) (report_bytes tasks) (λ table end reply is. is) laws.files laws.certificates contents jobs cert prec cores
+  command_one (Convert cert) = convert_one laws.conversions contents cert
 
   pub one_reply : (command : Command) (r s : Reply) → Gives (command_plan command) (Some contents) r → Gives (command_plan command) (Some contents) s → r ≡ s
+  one_reply (Analyse jobs prec cores budget) r s a b = one_analysis_reply laws.files contents jobs prec cores budget r s a b
+  one_reply (Check jobs cert prec cores) r s a b = one_certified_reply Checks yes_text (λ table end reply is. is) laws.files laws.certificates contents jobs cert prec cores r s a b
   one_reply (Replay jobs scenario prec cores) r s a b = one_run_reply laws.files laws.one_run contents jobs scenario prec cores r s a b
+  one_reply (Report jobs cert prec cores tasks) r s a b = one_certified_reply (Reports tasks) (report_bytes tasks) (λ table end reply is. is) laws.files laws.certificates contents jobs cert prec cores r s a b
+  one_reply (Convert cert) r s a b = one_convert_reply laws.conversions contents cert r s a b

@@ -21,7 +21,7 @@ reads_split (Judges X Holds go) q m k n (x, t, h) =
     elim (reads_split (go x) q m k n h) [ inl y ↦ inl (x, t, y) | inr y ↦ inr y ]
 
 -- a step that reads one file and judges it reads that file alone
-one_file : {A : Type 0} (kind : FileKind) (name : List ℕ) (limit : ℕ) (Holds : List ℕ → Result A Fault → Type 0) (m : Option Contents) (k : FileKind) (n : List ℕ) → ReadsNext (file_plan kind name limit >>= λ bytes. judged (Holds bytes)) m k n → (kind ≡ k) × (name ≡ n)
+pub one_file : {A : Type 0} (kind : FileKind) (name : List ℕ) (limit : ℕ) (Holds : List ℕ → Result A Fault → Type 0) (m : Option Contents) (k : FileKind) (n : List ℕ) → ReadsNext (file_plan kind name limit >>= λ bytes. judged (Holds bytes)) m k n → (kind ≡ k) × (name ≡ n)
 one_file kind name limit Holds m k n h = elim (reads_split (file_plan kind name limit) (λ bytes. judged (Holds bytes)) m k n h) [
   | inl x ↦ elim x [ inl y ↦ y | inr y ↦ absurd y.2 ]
   | inr x ↦ absurd x.1.2

@@ -6,7 +6,16 @@ mod PrecedenceLemmas
 mod OnePlan
 mod OneJudgement
 mod OneInputs
+mod FirstExcess
+mod GraphText
+mod AnalyseLemmas
+mod CertificateLemmas
+mod CertifiedLemmas
+mod CheckLemmas
+mod ReportLemmas
+mod ConvertLemmas
 mod ReplayLemmas
 mod CommandLemmas
+mod GraphCertificate
 mod RunLemmas
 mod OneAnswer

@@ -90,6 +90,14 @@ pub long_file : (m : Option Contents) (kind : FileKind) (name : List ℕ) (limit
 long_file None kind name limit h = (replicate (limit + 1) 0, tt, is_long kind (replicate (limit + 1) 0) limit (omega (arith, length-replicate {A = ℕ} (limit + 1) 0)))
 long_file (Some m) kind name limit h = (bytes_at m name, refl, is_long kind (bytes_at m name) limit h)
 
+is_short : (kind : FileKind) (bytes : List ℕ) (limit : ℕ) → length bytes ≤ limit → ◌≡◌ {A = Result (List ℕ) Fault} (cond (nat_lt limit (length bytes)) (Err (TooLong kind)) (Ok bytes)) (Ok bytes)
+is_short kind bytes limit h = grind arith
+
+-- a file that is not too long
+pub short_file : (m : Option Contents) (kind : FileKind) (name : List ℕ) (limit : ℕ) (bytes : List ℕ) → length bytes ≤ limit → IfSome m (λ m. bytes ≡ bytes_at m name) → ComesTo (file_plan kind name limit) m (Ok bytes)
+short_file None kind name limit bytes few are = (bytes, tt, is_short kind bytes limit few)
+short_file (Some m) kind name limit bytes few are = (bytes, are, is_short kind bytes limit few)
+
 -- a plan of two parts comes to a value by one of its first part
 pub comes_split : {A B : Type 0} (p : Plan (Result A Fault)) (q : A → Plan (Result B Fault)) (m : Option Contents) (w : B) → ComesTo (p >>= q) m (Ok w) → (a : A) × ComesTo p m (Ok a) × ComesTo (q a) m (Ok w)
 comes_split (Ends (Ok a)) q m w h = (a, refl, h)

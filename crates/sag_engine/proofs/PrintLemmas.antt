@@ -1,8 +1,8 @@
 -- What follows of calls that print.
 use Rattle.std.proofs.Common.{ℕ, ◌≤◌, ◌++◌, inl, inr, List, [], subst, arith, Result, Ok, Err, append-nil}
 use Rattle.sag_edge.specs.Reading.{SeenFiles}
-use Rattle.sag_edge.specs.Writing.{SeenSink}
-use Rattle.sag_edge.proofs.WriteLemmas.{takes_more, takes_none, prefix_on, rose_on, tells_more, tells_none, tells_on}
+use Rattle.sag_edge.specs.Writing.{GrowsBy, SeenSink, StillTells}
+use Rattle.sag_edge.proofs.WriteLemmas.{none_prefix, prefix_from_front, prefix_more, prefix_on, rose_on, takes_more, takes_none, tells_more, tells_none, tells_on}
 use Rattle.sag_texts.specs.declared.fault.Fault.{Fault}
 use Rattle.sag_engine.specs.declared.conclusion.Conclusion.{Conclusion}
 use Rattle.sag_engine.specs.declared.halt.Halt.{Halt}
@@ -42,6 +42,54 @@ end_alike T U a b x (Read kind) d = absurd d
 -- the last bytes, on which the call stopped
 pub writes_halt_last : {T U : Type 0} {a b : SeenSink} {x : List ℕ} {h : Halt} → Writes {T = T} x a b (Err h) → Writes {T = U} x a b (Err h)
 writes_halt_last {T = T} {U = U} {a = a} {b = b} {x = x} {h = h} d = record { later = d.later; tells = d.tells; end = end_alike T U a b x h d.end }
+
+-- these bytes were written
+pub record Wrote (bytes : List ℕ) (old new : SeenSink) : Type 0 where
+  pub later : old.faults ≤ new.faults
+  pub tells : StillTells old new bytes
+  pub grows : GrowsBy old.taken new.taken bytes
+
+pub wrote : {T : Type 0} {a b : SeenSink} {x : List ℕ} {t : T} → Writes x a b (Ok t) → Wrote x a b
+wrote d = record { later = d.later; tells = d.tells; grows = d.end }
+
+-- these bytes, and then a call that writes
+pub writes_after : {U : Type 0} {a b c : SeenSink} {x y : List ℕ} {r : Result U Halt} → Wrote x a b → Writes y b c r → Writes (x ++ y) a c r
+writes_after {a = a} {b = b} {x = x} d k =
+    let first : Writes {T = ℕ} x a b (Ok 0) = record { later = d.later; tells = d.tells; end = d.grows } in
+    writes_then first k
+
+-- these bytes, and then others
+pub wrote_then : {a b c : SeenSink} {x y : List ℕ} → Wrote x a b → Wrote y b c → Wrote (x ++ y) a c
+wrote_then {b = b} {c = c} {y = y} d k =
+    let more : Writes {T = ℕ} y b c (Ok 0) = record { later = k.later; tells = k.tells; end = k.grows } in
+    wrote (writes_after d more)
+
+end_earlier : (T U : Type 0) (a b : SeenSink) (x y : List ℕ) (h : Halt) → EndsWriting {T = T} x a b (Err h) → EndsWriting {T = U} (x ++ y) a b (Err h)
+end_earlier T U a b x y Write d = (d.0, prefix_more a.taken b.taken x y d.1)
+end_earlier T U a b x y Memory d = prefix_more a.taken b.taken x y d
+end_earlier T U a b x y Usage d = absurd d
+end_earlier T U a b x y (Refused fault) d = absurd d
+end_earlier T U a b x y (Read kind) d = absurd d
+
+-- a call stopped on the first ones of these bytes
+pub writes_earlier : {T U : Type 0} {a b : SeenSink} {x : List ℕ} {h : Halt} (y : List ℕ) → Writes {T = T} x a b (Err h) → Writes {T = U} (x ++ y) a b (Err h)
+writes_earlier {T = T} {U = U} {a = a} {b = b} {x = x} {h = h} y d = record { later = d.later; tells = tells_more a b x y d.tells; end = end_earlier T U a b x y h d.end }
+
+-- these bytes are all
+pub writes_all : {U : Type 0} {a b c : SeenSink} {x : List ℕ} {r : Result U Halt} → Wrote x a b → Writes [] b c r → Writes x a c r
+writes_all {a = a} {c = c} {x = x} {r = r} d k = subst (λ z. Writes z a c r) (append-nil x) (writes_after d k)
+
+-- memory ran out behind the first ones of these bytes
+pub writes_no_more : {T : Type 0} {a b : SeenSink} {x : List ℕ} (y : List ℕ) → Wrote x a b → Writes {T = T} (x ++ y) a b (Err Memory)
+writes_no_more {a = a} {b = b} {x = x} y d = record { later = d.later; tells = tells_more a b x y d.tells; end = prefix_from_front a.taken b.taken x y d.grows }
+
+-- memory ran out before anything was written
+pub writes_none : {T : Type 0} (a : SeenSink) (x : List ℕ) → Writes {T = T} x a a (Err Memory)
+writes_none a x = record { later = omega arith; tells = tells_more a a [] x (tells_none a); end = none_prefix a.taken a.taken x (takes_none a.taken) }
+
+-- a reply of which the first bytes were printed
+pub prints_halt : {reply : Reply} {a b : SeenSink} {h : Halt} → Writes {T = Conclusion} reply.bytes a b (Err h) → Prints reply a b (Err h)
+prints_halt d = record { writes = d; conclusion = tt }
 
 given : (p : Plan (Result Work Fault)) (f f' : SeenFiles) (t : Work) (reply : Reply) (h : Follows (λ w. w) p f f' (Ok t)) → Replies t reply → Gives p f.contents reply
 given p f f' t reply h r = record { work = t; comes = h.end; replies = r }

@@ -2,30 +2,61 @@
 --     Replies work reply       this may be printed for that work
 --     command_plan command     the files of a command in their order, and the work that they come to
 --     HasCores command         the number of cores is one that a schedule may have
+--     HasBudget command        the budget is one that a graph may have
 --     files_of command         their kinds and names
-use Rattle.std.specs.Prelude.{ℕ, ◌≤◌, List, Result}
+use Rattle.std.specs.Prelude.{ℕ, ◌≡◌, ◌≤◌, List, Result, ⊤}
 use Rattle.sag_texts.specs.declared.fault.FileKind.{FileKind}
 use Rattle.sag_texts.specs.declared.fault.Fault.{Fault}
 use Rattle.sag_words.specs.declared.command.Command.{Command}
 use Rattle.sag_words.specs.declared.command.Command.TheVariants as commands
 use Rattle.job_model.specs.declared.limits.TheConstants.{MOST_CORES}
+use Rattle.sag_graph.specs.declared.TheConstants.{MOST_BUDGET}
+use Rattle.sag_graph.specs.Budget.{spent}
 use Rattle.sag_engine.specs.Plan.{Plan}
 use Rattle.sag_engine.specs.Work.{Work, Reply}
-use Rattle.sag_engine.specs.Work.Work.{Replays}
+use Rattle.sag_engine.specs.Work.Work.{Analyses, Checks, Replays, Reports, Converts}
+use Rattle.sag_engine.specs.Analyse.{analyse_files, analyse_plan, analysis_reply}
+use Rattle.sag_engine.specs.Check.{check_files, check_plan, check_reply}
 use Rattle.sag_engine.specs.Replay.{IsRunReply, replay_files, replay_plan}
+use Rattle.sag_engine.specs.Report.{report_files, report_plan, report_reply}
+use Rattle.sag_engine.specs.Convert.{convert_files, convert_plan, convert_reply}
 
 -- this may be printed for that work
 abbrev pub Replies : Work → Reply → Type 0
+Replies (Analyses table m budget) reply = reply ≡ analysis_reply table m (spent table m budget)
+Replies (Checks table end) reply = reply ≡ check_reply table end
 Replies (Replays table m scenario) reply = IsRunReply table m scenario reply
+Replies (Reports tasks table end) reply = reply ≡ report_reply tasks table end
+Replies (Converts text) reply = reply ≡ convert_reply text
 
 -- the files of a command in the order in which they are read and judged, and the work that they come to
 abbrev pub command_plan : Command → Plan (Result Work Fault)
+command_plan (commands.Analyse jobs prec cores budget) = analyse_plan jobs prec cores budget
+command_plan (commands.Check jobs cert prec cores) = check_plan jobs cert prec cores
 command_plan (commands.Replay jobs scenario prec cores) = replay_plan jobs scenario prec cores
+command_plan (commands.Report jobs cert prec cores tasks) = report_plan jobs cert prec cores tasks
+command_plan (commands.Convert cert) = convert_plan cert
 
--- a command's cores are from 1 to the most
+-- a command's cores are from 1 to the most, where it has cores
 abbrev pub HasCores : Command → Type 0
+HasCores (commands.Analyse jobs prec cores budget) = (1 ≤ cores) × (cores ≤ MOST_CORES)
+HasCores (commands.Check jobs cert prec cores) = (1 ≤ cores) × (cores ≤ MOST_CORES)
 HasCores (commands.Replay jobs scenario prec cores) = (1 ≤ cores) × (cores ≤ MOST_CORES)
+HasCores (commands.Report jobs cert prec cores tasks) = (1 ≤ cores) × (cores ≤ MOST_CORES)
+HasCores (commands.Convert cert) = ⊤
+
+-- a command's budget, where it has one, is from 1 to the greatest
+abbrev pub HasBudget : Command → Type 0
+HasBudget (commands.Analyse jobs prec cores budget) = (1 ≤ budget) × (budget ≤ MOST_BUDGET)
+HasBudget (commands.Check jobs cert prec cores) = ⊤
+HasBudget (commands.Replay jobs scenario prec cores) = ⊤
+HasBudget (commands.Report jobs cert prec cores tasks) = ⊤
+HasBudget (commands.Convert cert) = ⊤
 
 -- the kinds and names of the files of a command
 abbrev pub files_of : Command → List (FileKind × List ℕ)
+files_of (commands.Analyse jobs prec cores budget) = analyse_files jobs prec
+files_of (commands.Check jobs cert prec cores) = check_files jobs cert prec
 files_of (commands.Replay jobs scenario prec cores) = replay_files jobs scenario prec
+files_of (commands.Report jobs cert prec cores tasks) = report_files jobs cert prec
+files_of (commands.Convert cert) = convert_files cert

@@ -3,7 +3,12 @@ pub mod Plan
 pub mod Inputs
 pub mod PrecedenceSteps
 pub mod Work
+pub mod Analyse
+pub mod Certificates
+pub mod Check
 pub mod Replay
+pub mod Report
+pub mod Convert
 pub mod Commands
 pub mod RunEnds
 pub mod Promises

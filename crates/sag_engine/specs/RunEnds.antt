@@ -1,5 +1,6 @@
 -- How the parts of a run of the program end.
 --     Follows view plan old new result      a call that reads files did as the plan says, up to its result
+--     Pours plan old new result Before After   a call handed on a file as the plan says
 --     Judged view R result                  a call that judges bytes came to what R says
 --     Writes bytes old new result           a call wrote these bytes, or the first of them where it stopped
 --     Prints reply old new result           the same of a reply, with how the work ended
@@ -8,7 +9,7 @@
 --     Works words files files' out out' end the whole work of the words
 --     conclusion_status, conclusion_text    the status of finished work, and the text that goes to the errors
 --     run_status, halt_fault, run_text      the same of an end
-use Rattle.std.specs.Prelude.{ℕ, ◌≡◌, ◌≤◌, ◌⊎◌, List, [], Some, Result, Ok, Err, IfOk, IsTrue, ⊤}
+use Rattle.std.specs.Prelude.{ℕ, ◌≡◌, ◌≤◌, ◌⊎◌, ◌++◌, List, [], Some, Result, Ok, Err, IfOk, IsTrue, OnOk, ⊤}
 use Rattle.std.specs.declared.option.Option.{Option}
 use Rattle.sag_edge.specs.Causes.{Rose}
 use Rattle.sag_edge.specs.Contents.{Contents}
@@ -44,6 +45,12 @@ pub record Follows {T X : Type 0} (view : T → X) (plan : Plan (Result X Fault)
   pub contents : new.contents ≡ old.contents
   pub later : old.faults ≤ new.faults
   pub end : EndsBy view plan old new result
+
+-- A call handed on the bytes of a file, as the plan says. What has taken bytes before takes them behind those.
+pub record Pours {T : Type 0} (plan : Plan (Result (List ℕ) Fault)) (old new : SeenFiles) (result : Result Unit Halt) (Before After : T → List ℕ → Type 0) : Type 0 where
+  pub bytes : List ℕ
+  pub follows : Follows (λ (u : Unit). bytes) plan old new result
+  pub takes : OnOk result ((start : T) (front : List ℕ) → Before start front → After start (front ++ bytes))
 
 -- how a call that judges bytes ended
 abbrev pub EndsJudging : {T X : Type 0} → (T → X) → (Result X Fault → Type 0) → Result T Halt → Type 0

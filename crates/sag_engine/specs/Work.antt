@@ -3,15 +3,23 @@
 --     Reply              what is printed, and how the work ended
 --     precedence_file    the kind and name of the precedence file, where one is named
 --     IsAmongFiles       one of these files has that kind and that name
-use Rattle.std.specs.Prelude.{ℕ, ◌≡◌, ◌⊎◌, List, [], ◌∷◌, Option, None, Some}
+use Rattle.std.specs.Prelude.{ℕ, ◌≡◌, ◌⊎◌, Bool, List, [], ◌∷◌, Option, None, Some, Result}
 use Rattle.sag_texts.specs.declared.fault.FileKind.{FileKind}
 use Rattle.sag_texts.specs.declared.fault.FileKind.TheVariants as kinds
 use Rattle.sag_engine.specs.declared.conclusion.Conclusion.{Conclusion}
+use Rattle.graph_check.specs.Entries.{JobEntry}
+use Rattle.graph_check.specs.Kept.{Failure}
 use Rattle.job_model.specs.Table.{Table}
 
--- What is to be done: the run of a scenario on so many cores.
+-- What is to be done: to print the certificate of the graph of a table, on so many cores and within a budget of states; to tell
+-- what a certificate of the table came to, its intervals and marks or the first failure; the run of a scenario on so many cores;
+-- to report of the jobs of a certificate, or of their tasks; or to print a certificate that was converted.
 pub data Work : Type 0 where
+  Analyses : Table → ℕ → ℕ → Work
+  Checks : Table → Result (List JobEntry) Failure → Work
   Replays : Table → ℕ → List (ℕ × ℕ) → Work
+  Reports : Bool → Table → Result (List JobEntry) Failure → Work
+  Converts : List ℕ → Work
 
 -- the bytes that are printed, and how the work ended
 pub record Reply : Type 0 where

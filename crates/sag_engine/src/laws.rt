@@ -2,6 +2,8 @@
 
 ghost use Rattle.sag_engine.specs.Laws.{CallsAgree, OneAnswer};
 
+use cert_check::{no_fault_of_readable, one_end, one_text_fault};
+use cert_convert::one_conversion;
 use csv_numbers::{one_first_fault, rows_keep_rules};
 use job_csv::one_job_list;
 use job_model::{edges_keep_rules, one_edge_fault, one_table_fault, tables_keep_rules};
@@ -31,6 +33,10 @@ pub fn one_answer()
     one_scenario();
     one_scenario_fault();
     scenarios_keep_rules();
+    one_end();
+    one_text_fault();
+    no_fault_of_readable();
+    one_conversion();
     one_run();
 }
 

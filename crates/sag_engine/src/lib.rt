@@ -1,7 +1,12 @@
 //! The program as one call: words, files and two sinks in, a status out.
 #![tactic(auto)]
 
+mod certificate;
+mod command_analyse;
+mod command_check;
+mod command_convert;
 mod command_replay;
+mod command_report;
 mod conclusion;
 mod explain;
 mod fetch;

@@ -7,8 +7,8 @@ use crate::conclusion::Conclusion;
 use crate::halt::Halt;
 use sag_edge::{Sink, write_whole};
 
-// Appends bytes to the output.
-fn deliver<O: Sink>(out: &mut O, bytes: &[u8]) -> Result<(), Halt>
+/// Appends bytes to the output.
+pub(crate) fn deliver<O: Sink>(out: &mut O, bytes: &[u8]) -> Result<(), Halt>
     ensures { Writes bytes.now (O.seen out.old) (O.seen out.new) result }
 {
     match write_whole(out, bytes) {
@@ -17,8 +17,8 @@ fn deliver<O: Sink>(out: &mut O, bytes: &[u8]) -> Result<(), Halt>
     }
 }
 
-// Ends the output.
-fn close<O: Sink>(out: &mut O, conclusion: Conclusion) -> Result<Conclusion, Halt>
+/// Ends the output.
+pub(crate) fn close<O: Sink>(out: &mut O, conclusion: Conclusion) -> Result<Conclusion, Halt>
     ensures writes { Writes [] (O.seen out.old) (O.seen out.new) result }
     ensures conclusion { IfOk result (λ told. (told ≡ conclusion) × IsTrue (O.seen out.new).finished) }
 {

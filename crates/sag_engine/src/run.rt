@@ -2,16 +2,28 @@
 
 ghost use Rattle.std.specs.Prelude.{◌≡◌, ◌≤◌, ℕ, List, [], IsTrue};
 ghost use Rattle.sag_edge.specs.Writing.{GrowsBy};
-ghost use Rattle.sag_engine.specs.Commands.{HasCores, command_plan};
+ghost use Rattle.sag_engine.specs.Commands.{HasBudget, HasCores, command_plan};
+ghost use Rattle.sag_engine.specs.Analyse.{PrintsCertificates};
+ghost use Rattle.sag_engine.specs.Check.{PrintsYeses};
+ghost use Rattle.sag_engine.specs.Convert.{PrintsConversions};
 ghost use Rattle.sag_engine.specs.Replay.{PrintsRuns};
+ghost use Rattle.sag_engine.specs.Report.{PrintsReports};
 ghost use Rattle.sag_engine.specs.RunEnds.{Runs, Works};
 ghost use Rattle.sag_engine.specs.Promises.{Answers, ExplainsFault, HasReadCause, Explains, HasWriteCause, IsDone, KeepsPrefix, KeepsTelling, texts};
 
+use crate::command_analyse::run_analyse;
+use crate::command_check::run_check;
+use crate::command_convert::run_convert;
 use crate::command_replay::run_replay;
+use crate::command_report::run_report;
 use crate::conclusion::Conclusion;
 use crate::explain::explain;
 use crate::halt::Halt;
 use crate::status::{Status, status_of};
+use cert_convert::converted_is_readable;
+use graph_check::old_is_valid;
+use graph_valid::{graph_is_readable, graph_is_short, graph_is_valid};
+use response_report::responses_within_wcrt;
 use run_meaning::{one_run, starts_agree};
 use sag_edge::{Files, Sink};
 use sag_words::{Command, WordFault, one_command, read_words};
@@ -24,17 +36,38 @@ fn run_command<F: Files, O: Sink>(
     files: &mut F,
     out: &mut O,
 ) -> Result<Conclusion, Halt>
-    requires { HasCores command }
+    requires cores { HasCores command }
+    requires budget { HasBudget command }
     ensures { Runs (command_plan command) (F.seen files.old) (F.seen files.new)
         (O.seen out.old) (O.seen out.new) result }
 {
     match command {
+        Command::Analyse {
+            jobs,
+            prec,
+            cores,
+            budget,
+        } => run_analyse(alloc, files, out, jobs, prec, cores, budget),
+        Command::Check {
+            jobs,
+            cert,
+            prec,
+            cores,
+        } => run_check(alloc, files, out, jobs, cert, prec, cores),
         Command::Replay {
             jobs,
             scenario,
             prec,
             cores,
         } => run_replay(alloc, files, out, jobs, scenario, prec, cores),
+        Command::Report {
+            jobs,
+            cert,
+            prec,
+            cores,
+            tasks,
+        } => run_report(alloc, files, out, jobs, cert, prec, cores, tasks),
+        Command::Convert { cert } => run_convert(alloc, files, out, cert),
     }
 }
 
@@ -59,7 +92,8 @@ fn work<F: Files, O: Sink>(
 ///
 /// The first word is the program's name, the second the command. The status is that of the first of these that applies:
 /// the words are refused; a file cannot be read, is too long or breaks a rule, in the order in which the command reads its
-/// files; `out` cannot be written. A fault of `err` changes no status. Want of memory can come at any place.
+/// files; `out` cannot be written; a certificate is not valid, or a graph exceeds its budget. A fault of `err` changes no
+/// status. Want of memory can come at any place.
 pub fn sag_run<F: Files, O: Sink, E: Sink>(
     alloc: Global,
     words: &[String],
@@ -69,6 +103,10 @@ pub fn sag_run<F: Files, O: Sink, E: Sink>(
 ) -> Status
     ensures answer { Answers (texts words.now) (F.seen files.old) (O.seen out.old) (O.seen out.new) result }
     ensures runs { PrintsRuns (texts words.now) (F.seen files.old) (O.seen out.old) (O.seen out.new) result }
+    ensures yes { PrintsYeses (texts words.now) (F.seen files.old) (O.seen out.old) (O.seen out.new) result }
+    ensures reports { PrintsReports (texts words.now) (F.seen files.old) (O.seen out.old) (O.seen out.new) result }
+    ensures converts { PrintsConversions (texts words.now) (F.seen files.old) (O.seen out.old) (O.seen out.new) result }
+    ensures certificates { PrintsCertificates (texts words.now) (F.seen files.old) (O.seen out.old) (O.seen out.new) result }
     ensures finished { IsDone result → IsTrue (O.seen out.new).finished }
     ensures read_fault { HasReadCause (texts words.now) (F.seen files.old) (F.seen files.new) result }
     ensures none_on_read_fault { result ≡ Status.ReadFault → GrowsBy (O.seen out.old).taken (O.seen out.new).taken [] }
@@ -90,6 +128,12 @@ pub fn sag_run<F: Files, O: Sink, E: Sink>(
     one_command();
     one_run();
     starts_agree();
+    responses_within_wcrt();
+    converted_is_readable();
+    old_is_valid();
+    graph_is_valid();
+    graph_is_readable();
+    graph_is_short();
     let end = work(alloc, words, files, out);
     explain(err, &end);
     status_of(&end)

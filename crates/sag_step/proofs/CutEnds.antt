@@ -17,7 +17,7 @@ use Rattle.job_sets.proofs.Filters.{is_rising-filter, above-outside}
 use Rattle.job_sets.proofs.Members.{list_all-member, list_all-from_members, is_member-at, is_member-filter, is_member-first, is_member-from_filter, is_member-push, is_member-rest}
 use Rattle.job_model.specs.Table.{Table, predecessors}
 use Rattle.sag_time.specs.Interval.{Interval}
-use Rattle.start_windows.specs.Ends.{end_of, low_end}
+use Rattle.start_windows.specs.Ends.{low_end}
 use Rattle.sag_step.specs.State.{is_tracked, tracked_jobs}
 use Rattle.sag_step.specs.Next.{cut_end, cut_ends, ended_by, runs_past, still_last, still_tracked}
 use Rattle.sag_step.proofs.ListsOfEnds.{All-insert_entry}

@@ -1,16 +1,16 @@
 //! Lists of finish times: what a step keeps of them, and such lists beside each other.
 
-ghost use Rattle.std.specs.Prelude.{◌≡◌, ◌++◌, ◌<◌, ◌≤◌, ◌↔◌, ◌&&◌, [], ◌∷◌, All, IfOk, IsTrue, Some, false, filter, if◌then◌else◌, length, map, min, nat_eq, nat_lt, not, slice_get};
+ghost use Rattle.std.specs.Prelude.{◌≡◌, ◌++◌, ◌<◌, ◌≤◌, ◌&&◌, [], ◌∷◌, All, IfOk, IsTrue, OnOk, Some, false, filter, if◌then◌else◌, length, map, min, nat_lt, not};
 ghost use Rattle.std.specs.BTreeMap.{insert_entry};
 ghost use Rattle.std.specs.Cmp.Lexicographic.{pointwise};
 ghost use Rattle.std.specs.Map.{keys_of};
 ghost use Rattle.std.specs.Ordering.{nat_cmp};
-ghost use Rattle.job_sets.specs.Subset.{IsSubset, is_member, is_within};
+ghost use Rattle.job_sets.specs.Subset.{is_member, is_within};
 ghost use Rattle.job_model.specs.Table.{predecessors};
 ghost use Rattle.lists.specs.Zipped.{zip_with};
-ghost use Rattle.start_windows.specs.Ends.{IsEnds, is_above};
+ghost use Rattle.start_windows.specs.Ends.{is_above};
 ghost use Rattle.sag_step.specs.Next.{cut_ends, ended_by, runs_past, still_last, still_tracked, last_predecessors};
-ghost use Rattle.sag_step.specs.State.{is_tracked, tracked_jobs};
+ghost use Rattle.sag_step.specs.State.{is_tracked};
 ghost use Rattle.sag_step.specs.Widen.{end_covers, end_hull};
 
 use crate::tracking::is_tracked;
@@ -211,6 +211,22 @@ pub(crate) fn copy_ends(alloc: Global, ends: &Ends) -> Result<Ends, AllocError>
         copy.put(job, span);
     }
     Ok(copy)
+}
+
+// Takes over the items of `from`, into the room that is there where it is enough.
+pub(crate) fn assign_ends(alloc: Global, into: &mut Ends, from: &Ends) -> Result<(), AllocError>
+    ensures { OnOk result (into.new.items ≡ from.now.items) }
+{
+    if into.room() < from.len() {
+        *into = copy_ends(alloc, from)?;
+        return Ok(());
+    }
+    into.clear();
+    for place in 0..from.len() {
+        let (job, span) = from.at(place);
+        into.put(job, span);
+    }
+    Ok(())
 }
 
 // Whether each interval of `narrow` is in that of `wide`.

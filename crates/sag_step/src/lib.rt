@@ -25,7 +25,7 @@ pub const MOST_TIME: u64 = 9_223_372_036_854_775_807;
 pub const MOST_STEP_TIME: u64 = 4_611_686_018_427_387_903;
 
 /// The number of a state: its place in its level, counted from 0.
-#[derive(Clone, Copy, PartialEq, Eq, PartialOrd, Ord, Hash, Debug)]
+#[derive(Clone, Copy, Default, PartialEq, Eq, PartialOrd, Ord, Hash, Debug)]
 pub struct StateNo(pub u32);
 
 impl Model for StateNo {

@@ -1,6 +1,6 @@
 //! System states.
 
-ghost use Rattle.std.specs.Prelude.{◌≡◌, ◌+◌, ◌<◌, ◌↔◌, IfOk, IfSome, IsSome, IsTrue, Some, false, length, nat_le};
+ghost use Rattle.std.specs.Prelude.{◌≡◌, ◌+◌, ◌<◌, ◌↔◌, IfOk, IfSome, IsSome, IsTrue, OnOk, Some, false, length, nat_le};
 ghost use Rattle.std.specs.Cmp.Lexicographic.{pointwise};
 ghost use Rattle.job_sets.specs.Subset.{is_member, with_number};
 ghost use Rattle.sag_time.specs.Interval.{touches};
@@ -13,7 +13,8 @@ ghost use Rattle.sag_step.specs.Widen.{AreComparable, core_intervals, same_set, 
 
 use crate::Steps;
 use crate::ends::{
-    copy_ends, count_last, cover_ends, end_predecessors, keep_last, keep_tracked, widen_ends,
+    assign_ends, copy_ends, count_last, cover_ends, end_predecessors, keep_last, keep_tracked,
+    widen_ends,
 };
 use crate::tracking::{lists_all, tracks, tracks_child};
 use job_model::JobTable;
@@ -125,6 +126,46 @@ impl State {
         Some(state)
     }
 
+    /// The state of these parts, if it is one of the table on so many cores, where its set is that of
+    /// this one, which is a state, with the job.
+    pub fn child_from_parts(
+        &self,
+        table: &JobTable,
+        cores: u16,
+        job: JobNo,
+        set: JobSet,
+        low: Avail,
+        high: Avail,
+        ends: Ends,
+        last: JobSet,
+    ) -> Option<State>
+        requires parent { IsState table.now cores self.now.state }
+        requires new { is_member job self.now.state.set.members ≡ false }
+        requires child { set.members ≡ with_number job self.now.state.set.members }
+        requires of_table { set.size ≡ length table.now.jobs }
+        requires last_of_table { last.size ≡ length table.now.jobs }
+        requires in_limit { IsUpTo MOST_TIME
+            (record { set = set; low = low; high = high; ends = ends.items; last = last }) }
+        ensures parts { IfSome result (λ s. s ≡ record {
+          state = record { set = set; low = low; high = high; ends = ends.items; last = last };
+          room = ends.room;
+        }) }
+        ensures shaped { IsSome result ↔ Shaped table.now cores
+            (record { set = set; low = low; high = high; ends = ends.items; last = last }) }
+    {
+        let state = State {
+            set,
+            low,
+            high,
+            ends,
+            last,
+        };
+        if !state.is_child(self, table, cores, job) {
+            return None;
+        }
+        Some(state)
+    }
+
     // Whether it is a state of the table on so many cores.
     fn is_state(&self, table: &JobTable, cores: u16) -> bool
         requires { self.now.state.set.size ≡ length table.now.jobs }
@@ -182,6 +223,34 @@ impl State {
             ends: copy_ends(alloc, &self.ends)?,
             last: self.last.copy(alloc)?,
         })
+    }
+
+    /// Whether the other has as many cores, and a set of as many jobs.
+    pub fn is_like(&self, other: &State) -> bool
+        ensures size { IsTrue result → self.now.state.set.size ≡ other.now.state.set.size }
+        ensures low { IsTrue result → length self.now.state.low ≡ length other.now.state.low }
+        ensures high { IsTrue result → length self.now.state.high ≡ length other.now.state.high }
+    {
+        let size = self.set.size() == other.set.size();
+        let low = self.low.len() == other.low.len();
+        let high = self.high.len() == other.high.len();
+        size && low && high
+    }
+
+    /// Becomes an equal state. Memory is taken only where its room is not enough; where there is
+    /// none, it is of no more use.
+    pub fn assign(&mut self, alloc: Global, other: &State) -> Result<(), AllocError>
+        requires size { self.old.state.set.size ≡ other.now.state.set.size }
+        requires low { length self.old.state.low ≡ length other.now.state.low }
+        requires high { length self.old.state.high ≡ length other.now.state.high }
+        ensures { OnOk result (self.new.state ≡ other.now.state) }
+    {
+        assign_ends(alloc, &mut self.ends, &other.ends)?;
+        self.set.copy_from(&other.set);
+        self.low.copy_from(&other.low);
+        self.high.copy_from(&other.high);
+        self.last.copy_from(&other.last);
+        Ok(())
     }
 
     /// The jobs that have started.

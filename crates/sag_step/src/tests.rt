@@ -160,12 +160,26 @@ fn a_step_takes_the_first_core(rt: HostRuntime) {
         )
     );
     assert_eq!(rt; counts(alloc, &table), Some(([1, 3, 1, 3], [1, 1])));
+    assert!(rt; StateNo(1) < StateNo(2));
+}
+
+#[test]
+fn laws_can_be_called() {
+    root_is_shaped();
     some_step_is_left();
     next_is_shaped();
     next_is_state();
     next_is_up_to();
     finish_is_up_to();
-    assert!(rt; StateNo(1) < StateNo(2));
+    scratch_has_room();
+    shape_is_tested();
+    shaped_are_comparable();
+    hull_is_shaped();
+    hull_is_state();
+    hull_is_up_to();
+    state_hull_is_least();
+    widening_is_reflexive();
+    widening_is_transitive();
 }
 
 // Three jobs of which the first is released from 0 to 5.
@@ -239,6 +253,26 @@ fn avail(alloc: Global, times: &[u64]) -> Option<Avail>
     Avail::from_list(times.to_vec(alloc).ok()?)
 }
 
+// The sets of so many first jobs.
+fn sets_of(alloc: Global, size: u16, counts: (u16, u16)) -> Option<(JobSet, JobSet)>
+    ensures { IfSome result (λ sets. (sets.0.size ≡ size) × (sets.1.size ≡ size)) }
+{
+    let (started, last) = counts;
+    let set = set_of(alloc, size, started).ok()?;
+    let last = set_of(alloc, size, last).ok()?;
+    Some((set, last))
+}
+
+// The two lists of these times, if they may stand in a state.
+fn avails(alloc: Global, low: &[u64], high: &[u64]) -> Option<(Avail, Avail)>
+    ensures { IfSome result (λ both. IsTrue (list_all (λ t. nat_le t MOST_TIME) both.0)
+        × IsTrue (list_all (λ t. nat_le t MOST_TIME) both.1)) }
+{
+    let low = avail(alloc, low)?;
+    let high = avail(alloc, high)?;
+    Some((low, high))
+}
+
 // The state of these parts, in which the first of the jobs have started and the first of these are the last on their
 // cores, if it is one on so many cores.
 fn parts(
@@ -252,12 +286,9 @@ fn parts(
 ) -> Option<State>
     ensures { IfSome result (λ s. Shaped table.now cores s.state) }
 {
-    let (started, last) = counts;
-    let set = set_of(alloc, table.len(), started).ok()?;
-    let last = set_of(alloc, table.len(), last).ok()?;
+    let (set, last) = sets_of(alloc, table.len(), counts)?;
+    let (low, high) = avails(alloc, low, high)?;
     let ends = ends_of(alloc, end)?;
-    let low = avail(alloc, low)?;
-    let high = avail(alloc, high)?;
     State::from_parts(table, cores, set, low, high, ends, last)
 }
 
@@ -345,20 +376,38 @@ fn on_one_core(
     )
 }
 
+// How many jobs have started, the interval of the core, and when the first job has finished at the latest.
+type Parts = (u16, (u64, u64), u64);
+
 // As `beside`, of a state and that of these parts.
 fn beside_parts(
     alloc: Global,
     table: &JobTable,
     one: &mut State,
-    started: u16,
-    interval: (u64, u64),
-    latest: u64,
+    other: Parts,
 ) -> Option<(bool, bool)>
     requires { Shaped table.now 1 one.old.state }
     ensures { Shaped table.now 1 one.new.state }
 {
+    let (started, interval, latest) = other;
     let other = on_one_core(alloc, table, started, interval, latest)?;
     Some(beside(table, 1, one, &other))
+}
+
+// Whether the state is so beside each of these, one after another, of which it absorbs those that it touches; and the end
+// of the first job after that.
+fn end_beside_all(
+    alloc: Global,
+    table: &JobTable,
+    cases: &[(Parts, (bool, bool))],
+) -> Option<Span> {
+    let mut one = on_one_core(alloc, table, 1, (6, 6), 4)?;
+    for (other, expected) in cases {
+        if beside_parts(alloc, table, &mut one, *other) != Some(*expected) {
+            return None;
+        }
+    }
+    one.ends().get(JobNo(0))
 }
 
 #[test]
@@ -367,29 +416,15 @@ fn states_are_compared_and_merged(rt: HostRuntime) {
     let Some(table) = table(alloc) else {
         panic!(rt; "the rows keep the rules");
     };
-    let Some(mut one) = on_one_core(alloc, &table, 1, (6, 6), 4) else {
-        panic!(rt; "it is a state");
-    };
-    for (started, interval, latest, expected) in [
-        (2, (6, 6), 4, (false, false)),
-        (1, (8, 9), 4, (false, false)),
-        (1, (7, 7), 5, (true, false)),
-        (1, (7, 7), 5, (true, true)),
-        (1, (8, 9), 4, (true, false)),
-        (1, (8, 9), 6, (true, false)),
-    ] {
-        assert_eq!(rt;
-            beside_parts(alloc, &table, &mut one, started, interval, latest),
-            Some(expected)
-        );
-    }
-    assert_eq!(rt; one.ends().get(JobNo(0)), Span::new(2, 6));
-    state_hull_is_least();
-    hull_is_state();
-    hull_is_up_to();
-    shape_is_tested();
-    widening_is_reflexive();
-    widening_is_transitive();
+    let cases = [
+        ((2, (6, 6), 4), (false, false)),
+        ((1, (8, 9), 4), (false, false)),
+        ((1, (7, 7), 5), (true, false)),
+        ((1, (7, 7), 5), (true, true)),
+        ((1, (8, 9), 4), (true, false)),
+        ((1, (8, 9), 6), (true, false)),
+    ];
+    assert_eq!(rt; end_beside_all(alloc, &table, &cases), Span::new(2, 6));
 }
 
 // Three jobs of which the second waits for the first, which may be released after the third has started.

@@ -28,7 +28,7 @@ use Rattle.side_csv.specs.declared.fault.SideFault.{SideFault}
 use Rattle.side_csv.specs.declared.fault.SideFault.TheVariants as side
 use Rattle.sag_texts.specs.declared.usage.TheConstants.{USAGE}
 use Rattle.sag_texts.specs.declared.fault.FileKind.{FileKind}
-use Rattle.sag_texts.specs.declared.fault.FileKind.TheVariants.{Jobs, Scenario, Precedence}
+use Rattle.sag_texts.specs.declared.fault.FileKind.TheVariants.{Jobs, Scenario, Precedence, Certificate}
 use Rattle.sag_texts.specs.declared.fault.Fault.{Fault}
 use Rattle.sag_texts.specs.declared.fault.Fault.TheVariants as fault
 
@@ -41,6 +41,7 @@ abbrev pub file_word : FileKind → List ℕ
 file_word Jobs = codes "jobs"
 file_word Scenario = codes "scenario"
 file_word Precedence = codes "precedence"
+file_word Certificate = codes "certificate"
 
 -- why a file is refused
 unfoldable pub refusal : FileKind → List (List ℕ) → List ℕ
@@ -113,6 +114,7 @@ fault_text (fault.Table why) = table_fault_text why
 fault_text (fault.Edge why) = edge_fault_text why
 fault_text (fault.Side file why) = side_fault_text file why
 fault_text (fault.NoRow file task job) = refusal file (codes " has no row for job " ∷ decimal task ∷ codes " " ∷ decimal job ∷ [])
+fault_text (fault.Text line byte) = refusal Certificate (codes " line " ∷ decimal line ∷ codes " byte " ∷ decimal byte ∷ [])
 fault_text (fault.CannotRead file) = line (codes "cannot read " ∷ file_word file ∷ [])
 fault_text fault.CannotWrite = line (codes "cannot write" ∷ [])
 fault_text fault.NoMemory = no_memory

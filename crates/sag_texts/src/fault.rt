@@ -10,6 +10,7 @@ pub enum FileKind {
     Jobs,
     Scenario,
     Precedence,
+    Certificate,
 }
 
 /// Why there is no answer. Rows are counted from 1, after the heading, and columns from 1.
@@ -29,6 +30,9 @@ pub enum Fault {
     Side(FileKind, SideFault),
     /// The file has no row for this job: (file, task ID, job ID).
     NoRow(FileKind, u64, u64),
+    /// The certificate is not in the grammar: this is the first byte with which its bytes begin none, by its line and its
+    /// number in that line, both from 1.
+    Text { line: u64, byte: u64 },
     /// Reading the file failed.
     CannotRead(FileKind),
     /// Writing the answer failed.

@@ -130,6 +130,11 @@ pub fn write_fault<S: Sink>(sink: &mut S, fault: &Fault) -> Result<(), Failed>
                 &[Words(" has no row for job "), task, Words(" "), job],
             )
         }
+        Fault::Text { line, byte } => {
+            let (line, byte) = (Number(*line), Number(*byte));
+            let place = [Words(" line "), line, Words(" byte "), byte];
+            refuse(sink, FileKind::Certificate, &place)
+        }
         Fault::CannotRead(file) => write_line(sink, &[Words("cannot read "), File(*file)]),
         Fault::CannotWrite => write_line(sink, &[Words("cannot write")]),
         Fault::NoMemory => write_no_memory(sink),

@@ -27,6 +27,7 @@ impl FileKind {
             FileKind::Jobs => "jobs",
             FileKind::Scenario => "scenario",
             FileKind::Precedence => "precedence",
+            FileKind::Certificate => "certificate",
         }
     }
 }

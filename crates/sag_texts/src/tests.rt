@@ -14,7 +14,7 @@ use std::test::Fail;
 fn is_told(rt: &impl Abort, alloc: Global, line: &str, fault: Fault) -> Result<(), Fail>
     requires { HasText fault }
 {
-    let mut sink = MemSink::new(alloc, 100, 3, Vec::new(alloc))?;
+    let mut sink = MemSink::new(alloc, 1000, 3, Vec::new(alloc))?;
     assert!(rt; write_fault(&mut sink, &fault).is_ok(), "at {line}");
     let line = format!(in alloc; "{line}\n")?;
     assert_eq!(rt; sink.bytes(), line.as_bytes());
@@ -29,6 +29,8 @@ fn tells_faults(rt: HostRuntime) -> Result<(), Fail> {
     is_told(&rt, a, too_long, Fault::TooLong(Jobs))?;
     let no_row = "refused scenario has no row for job 1 18446744073709551615";
     is_told(&rt, a, no_row, Fault::NoRow(Scenario, 1, u64::MAX))?;
+    let text = Fault::Text { line: 16, byte: 1 };
+    is_told(&rt, a, "refused certificate line 16 byte 1", text)?;
     is_told(&rt, a, "cannot read jobs", Fault::CannotRead(Jobs))?;
     is_told(&rt, a, "cannot write", Fault::CannotWrite)?;
     is_told(&rt, a, "no memory", Fault::NoMemory)

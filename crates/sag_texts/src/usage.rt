@@ -8,7 +8,11 @@ use sag_edge::{Failed, Sink, write_whole};
 /// The usage: a line a command, the first behind `usage: `, each other behind seven spaces. Commands stand in this order:
 /// analyse, check, replay, attain, report, selftest, convert, audit, unroll, whatif, gap.
 pub const USAGE: &str = "\
-usage: sag replay JOBS SCENARIO [--prec FILE] [--cores N]
+usage: sag analyse JOBS [--prec FILE] [--cores N] [--budget N]
+       sag check JOBS CERT [--prec FILE] [--cores N]
+       sag replay JOBS SCENARIO [--prec FILE] [--cores N]
+       sag report JOBS CERT [--prec FILE] [--cores N] [--tasks]
+       sag convert CERT
 ";
 
 /// Writes the usage.

@@ -1,4 +1,6 @@
 mod AppLemmas
 mod OneCommand
 mod WordLemmas
+mod WorkedAnalyse
 mod WorkedReplay
+mod WorkedReport

@@ -1,13 +1,19 @@
 -- Which command the words ask for.
-use Rattle.std.proofs.Common.{Bor, ◌≡◌, ◌∙◌, ℕ, List, Option, ap, codes, option_map}
+use Rattle.std.proofs.Common.{Bor, ◌≡◌, ◌∙◌, [], ◌∷◌, ℕ, Bool, List, Option, ap, codes, false, nat_eq, option_map, refl, sym, true}
+use Rattle.std.specs.Cmp.Lexicographic.{pointwise}
+use Rattle.std.proofs.lemmas.Bool.{and_from, eq-eqb, true≢false}
 use Rattle.clap.proofs.WalkLemmas.{first_value-rows}
 use Rattle.clap.specs.Words.{App, Text, first_of, first_value, matches_of, rows_of}
 use Rattle.clap.specs.declared.parser.matches.Found.{Found}
 use Rattle.sag_words.specs.Apps.{IsInGrammar, value_at}
+use Rattle.sag_words.specs.Analyse.{analyse_app}
+use Rattle.sag_words.specs.Check.{check_app}
+use Rattle.sag_words.specs.Convert.{convert_app}
 use Rattle.sag_words.specs.Replay.{replay_app}
-use Rattle.sag_words.specs.Words.{Asks, HasValues}
+use Rattle.sag_words.specs.Report.{report_app}
+use Rattle.sag_words.specs.Words.{Asks, HasValues, name_of}
 use Rattle.sag_words.specs.declared.command.Command.{Command}
-use Rattle.sag_words.specs.declared.command.Command.TheVariants.{Replay}
+use Rattle.sag_words.specs.declared.command.Command.TheVariants.{Analyse, Check, Replay, Report, Convert}
 
 -- what a getter reads is the value of the argument
 pub value_read : (app : App) (words : List Text) (found : Found) (id : Text) (read : Option (Bor Text))
@@ -15,14 +21,60 @@ pub value_read : (app : App) (words : List Text) (found : Found) (id : Text) (re
 unfolding value_at
 value_read app words found id read gets rows = gets ∙ first_value-rows found id ∙ ap (first_of id) rows
 
--- words that give no `replay` ask for nothing under that name
+is_itself : (text : Text) → pointwise nat_eq text text ≡ true
+is_itself [] = refl
+is_itself (b ∷ text) = and_from (nat_eq b b) (pointwise nat_eq text text) (eq-eqb b b refl) (is_itself text)
+
+-- two texts that a test tells apart are not equal
+pub names_differ : (one other : Text) → pointwise nat_eq one other ≡ false → one ≡ other → ⊥
+names_differ one other apart same = true≢false (sym (is_itself one) ∙ ap (pointwise nat_eq one) same ∙ apart)
+
+-- words that give no `analyse` ask for nothing under that name
+pub analyse_refused : (rest : List Text)
+    → ((jobs : Text) (prec : Option Text) (cores budget : ℕ) → IsInGrammar analyse_app rest → HasValues (value_at analyse_app rest) (Analyse jobs prec cores budget) → ⊥)
+    → (command : Command) → Asks (codes "analyse") rest command → ⊥
+unfolding Asks
+analyse_refused rest none (Analyse jobs prec cores budget) asks = none jobs prec cores budget asks.1 asks.2
+analyse_refused rest none other asks = names_differ (codes "analyse") (name_of other) refl asks.0
+
+-- nor do words that give no `check`
+pub check_refused : (rest : List Text)
+    → ((jobs cert : Text) (prec : Option Text) (cores : ℕ) → IsInGrammar check_app rest → HasValues (value_at check_app rest) (Check jobs cert prec cores) → ⊥)
+    → (command : Command) → Asks (codes "check") rest command → ⊥
+unfolding Asks
+check_refused rest none (Check jobs cert prec cores) asks = none jobs cert prec cores asks.1 asks.2
+check_refused rest none other asks = names_differ (codes "check") (name_of other) refl asks.0
+
+-- nor do words that give no `replay`
 pub replay_refused : (rest : List Text)
     → ((jobs scenario : Text) (prec : Option Text) (cores : ℕ) → IsInGrammar replay_app rest → HasValues (value_at replay_app rest) (Replay jobs scenario prec cores) → ⊥)
     → (command : Command) → Asks (codes "replay") rest command → ⊥
 unfolding Asks
 replay_refused rest none (Replay jobs scenario prec cores) asks = none jobs scenario prec cores asks.1 asks.2
+replay_refused rest none other asks = names_differ (codes "replay") (name_of other) refl asks.0
+
+-- nor do words that give no `report`
+pub report_refused : (rest : List Text)
+    → ((jobs cert : Text) (prec : Option Text) (cores : ℕ) (tasks : Bool) → IsInGrammar report_app rest → HasValues (value_at report_app rest) (Report jobs cert prec cores tasks) → ⊥)
+    → (command : Command) → Asks (codes "report") rest command → ⊥
+unfolding Asks
+report_refused rest none (Report jobs cert prec cores tasks) asks = none jobs cert prec cores tasks asks.1 asks.2
+report_refused rest none other asks = names_differ (codes "report") (name_of other) refl asks.0
+
+-- nor do words that give no `convert`
+pub convert_refused : (rest : List Text)
+    → ((cert : Text) → IsInGrammar convert_app rest → HasValues (value_at convert_app rest) (Convert cert) → ⊥)
+    → (command : Command) → Asks (codes "convert") rest command → ⊥
+unfolding Asks
+convert_refused rest none (Convert cert) asks = none cert asks.1 asks.2
+convert_refused rest none other asks = names_differ (codes "convert") (name_of other) refl asks.0
 
 -- a name that is no command's asks for nothing
-pub unknown_refused : (name : Text) (rest : List Text) → (name ≡ codes "replay" → ⊥) → (command : Command) → Asks name rest command → ⊥
+pub unknown_refused : (name : Text) (rest : List Text) → (name ≡ codes "analyse" → ⊥) → (name ≡ codes "check" → ⊥) → (name ≡ codes "replay" → ⊥) → (name ≡ codes "report" → ⊥) → (name ≡ codes "convert" → ⊥) →
+    (command : Command) → Asks name rest command → ⊥
 unfolding Asks
-unknown_refused name rest replay (Replay jobs scenario prec cores) asks = replay asks.0
+unknown_refused name rest analyse check replay report convert (Analyse jobs prec cores budget) asks = analyse asks.0
+unknown_refused name rest analyse check replay report convert (Check jobs cert prec cores) asks = check asks.0
+unknown_refused name rest analyse check replay report convert (Replay jobs scenario prec cores) asks = replay asks.0
+unknown_refused name rest analyse check replay report convert (Report jobs cert prec cores tasks) asks = report asks.0
+unknown_refused name rest analyse check replay report convert (Convert cert) asks = convert asks.0

@@ -1,5 +1,10 @@
 pub mod Apps
 pub mod Numbers
+pub mod Analyse
+pub mod Check
 pub mod Replay
+pub mod Flags
+pub mod Report
+pub mod Convert
 pub mod Words
 pub mod Laws

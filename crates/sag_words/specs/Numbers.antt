@@ -1,11 +1,19 @@
 -- The numbers that options give.
---   GivesCores   the text of `--cores`, where there is one, gives this number of cores
+--   GivesCores    the text of `--cores`, where there is one, gives this number of cores
+--   GivesBudget   the text of `--budget`, where there is one, gives this budget
 use Rattle.std.specs.Prelude.{◌≡◌, ◌≤◌, ℕ, Option, None, Some}
 use Rattle.clap.specs.Words.{Text}
 use Rattle.csv_numbers.specs.Fields.{Spells}
 use Rattle.job_model.specs.declared.limits.TheConstants.{MOST_CORES}
+use Rattle.sag_graph.specs.declared.TheConstants.{MOST_BUDGET}
+use Rattle.sag_words.specs.declared.numbers.TheConstants.{DEFAULT_BUDGET}
 
 -- the text spells a number from 1 to the most cores, as a field of a CSV file does; without a text there is one core
 abbrev pub GivesCores : Option Text → ℕ → Type 0
 GivesCores None cores = cores ≡ 1
 GivesCores (Some text) cores = Spells text cores × (1 ≤ cores) × (cores ≤ MOST_CORES)
+
+-- the text spells a budget from 1 to the greatest, as a field of a CSV file does; without a text it is the default
+abbrev pub GivesBudget : Option Text → ℕ → Type 0
+GivesBudget None budget = budget ≡ DEFAULT_BUDGET
+GivesBudget (Some text) budget = Spells text budget × (1 ≤ budget) × (budget ≤ MOST_BUDGET)

@@ -1,10 +1,14 @@
 //! The numbers of options.
 
 ghost use Rattle.std.specs.Prelude.{ℕ, MatchOption, option_map};
-ghost use Rattle.sag_words.specs.Numbers.{GivesCores};
+ghost use Rattle.sag_words.specs.Numbers.{GivesBudget, GivesCores};
 
 use csv_numbers::read_number;
 use job_model::MOST_CORES;
+use sag_graph::MOST_BUDGET;
+
+/// The budget of states where none is given.
+pub const DEFAULT_BUDGET: u32 = 100_000;
 
 /// The number of cores that an option gives: from 1 to `MOST_CORES`, and 1 where it is not given.
 pub(crate) fn cores_of(text: Option<&str>) -> Option<u16>
@@ -18,6 +22,23 @@ pub(crate) fn cores_of(text: Option<&str>) -> Option<u16>
     let number = read_number(text.as_bytes()).ok()?;
     if 1 <= number && number <= u64::from(MOST_CORES) {
         Some(number as u16)
+    } else {
+        None
+    }
+}
+
+/// The budget that an option gives: from 1 to `MOST_BUDGET`, and `DEFAULT_BUDGET` where it is not given.
+pub(crate) fn budget_of(text: Option<&str>) -> Option<u32>
+    ensures { MatchOption result
+        ((budget : ℕ) → ¬ GivesBudget (option_map (λ text. text.now) text.entry) budget)
+        (GivesBudget (option_map (λ text. text.now) text.entry)) }
+{
+    let Some(text) = text else {
+        return Some(DEFAULT_BUDGET);
+    };
+    let number = read_number(text.as_bytes()).ok()?;
+    if 1 <= number && number <= u64::from(MOST_BUDGET) {
+        Some(number as u32)
     } else {
         None
     }

@@ -6,7 +6,7 @@ ghost use Rattle.sag_words.specs.Apps.{IsInGrammar, app_with, argument_rule};
 
 use crate::WordFault;
 use clap::error::ErrorKind;
-use clap::{Arg, ArgMatches, Command};
+use clap::{Arg, ArgAction, ArgMatches, Command};
 use std::alloc::Global;
 
 /// An argument of a command.
@@ -16,6 +16,8 @@ pub(crate) enum Argument<'a> {
     Place(&'a str),
     /// A value that may be given, as `--name value` or `--name=value`.
     Named(&'a str),
+    /// A flag that may be given, as `--name`.
+    Flag(&'a str),
 }
 
 // The argument as `clap` has it.
@@ -26,6 +28,7 @@ fn arg_of<'a>(alloc: Global, argument: &Argument<'a>) -> Arg<'a>
     match argument {
         Argument::Place(name) => Arg::new(alloc, name).required(true),
         Argument::Named(name) => Arg::new(alloc, name).long(name),
+        Argument::Flag(name) => Arg::new(alloc, name).long(name).action(ArgAction::SetTrue),
     }
 }
 

@@ -4,7 +4,11 @@ ghost use Rattle.std.specs.Prelude.{◌≡◌, IfErr, IfOk, map, string_bytes};
 ghost use Rattle.sag_words.specs.Words.{Asks, WordsOf};
 ghost use Rattle.sag_words.specs.declared.command.Command.{Command};
 
+use crate::analyse::read_analyse;
+use crate::check::read_check;
+use crate::convert::read_convert;
 use crate::replay::read_replay;
+use crate::report::read_report;
 use crate::{Command, WordFault};
 use std::alloc::Global;
 
@@ -15,7 +19,11 @@ fn read_named(alloc: Global, name: &str, rest: &[String]) -> Result<Command, Wor
         (command : Command) → Asks name.now (map string_bytes rest.now) command → ⊥) }
 {
     match name {
+        "analyse" => read_analyse(alloc, rest),
+        "check" => read_check(alloc, rest),
         "replay" => read_replay(alloc, rest),
+        "report" => read_report(alloc, rest),
+        "convert" => read_convert(alloc, rest),
         _ => Err(WordFault::Usage),
     }
 }

@@ -1,190 +1,172 @@
 use crate::{SideFault, read_edges, read_scenario, write_scenario};
 use csv_numbers::CsvFault;
-use job_model::{Job, JobNo, JobTable, Scenario};
+use job_model::{Job, JobNo, JobTable};
 use std::alloc::{AllocError, Global};
-use std::test::Fail;
+
+// The table of these rows.
+fn table_of(alloc: Global, rows: &[Job]) -> Result<JobTable, AllocError> {
+    match JobTable::from_rows(alloc, rows.to_vec(alloc)?) {
+        Ok(table) => Ok(table),
+        Err(_) => Err(AllocError),
+    }
+}
 
 // Two jobs: 1 1 is released from 0 to 1 and costs 1 or 2, and 2 1 is released at 0 and costs 2 or 3.
 fn two_jobs(alloc: Global) -> Result<JobTable, AllocError> {
-    let first = Job {
-        task: 1,
-        job: 1,
-        rmin: 0,
-        rmax: 1,
-        cmin: 1,
-        cmax: 2,
-        deadline: 5,
-        priority: 1,
-    };
-    let second = Job {
-        task: 2,
-        job: 1,
-        rmin: 0,
-        rmax: 0,
-        cmin: 2,
-        cmax: 3,
-        deadline: 9,
-        priority: 2,
-    };
-    let rows = [first, second].to_vec(alloc)?;
-    JobTable::from_rows(alloc, rows).map_err(|_| AllocError)
+    let first = Job::from_row([1, 1, 0, 1, 1, 2, 5, 1]);
+    let second = Job::from_row([2, 1, 0, 0, 2, 3, 9, 2]);
+    table_of(alloc, &[first, second])
 }
 
-// The scenario of the two jobs that this text gives.
-fn read(alloc: Global, text: &[u8]) -> Result<Scenario, SideFault> {
+// Why this text gives the two jobs no scenario.
+fn fault_of(alloc: Global, text: &[u8]) -> Option<SideFault> {
     let Ok(table) = two_jobs(alloc) else {
-        return Err(SideFault::Memory);
+        return Some(SideFault::Memory);
     };
-    read_scenario(alloc, text, &table)
+    read_scenario(alloc, text, &table).err()
 }
 
-// The releases and costs that this text gives the two jobs.
-fn values(alloc: Global, text: &[u8]) -> Option<[u64; 4]> {
-    let table = two_jobs(alloc).ok()?;
-    if table.len() != 2 {
-        return None;
-    }
-    let scenario = read_scenario(alloc, text, &table).ok()?;
-    let [first, second] = [JobNo(0), JobNo(1)];
-    Some([
-        scenario.release(first),
-        scenario.cost(first),
-        scenario.release(second),
-        scenario.cost(second),
-    ])
-}
-
-#[test]
-fn reads_rows_in_any_order(rt: HostRuntime) {
-    let alloc = rt.alloc();
-    assert_eq!(rt; values(alloc, b"h\n1,1,1,2\n2,1,0,3\n"), Some([1, 2, 0, 3]));
-    assert_eq!(rt; values(alloc, b"h\n2,1,0,3\n1,1,1,2\n"), Some([1, 2, 0, 3]));
+// Whether that is why.
+fn refuses(alloc: Global, text: &[u8], fault: SideFault) -> bool {
+    fault_of(alloc, text) == Some(fault)
 }
 
 #[test]
 fn judges_rows_by_the_table(rt: HostRuntime) {
     let alloc = rt.alloc();
-    assert!(rt; matches!(read(alloc, b"h\n1,1,2,1\n"), Err(SideFault::Outside(1, 3))));
-    assert!(rt; matches!(read(alloc, b"h\n1,1,0,3\n"), Err(SideFault::Outside(1, 4))));
-    assert!(rt; matches!(read(alloc, b"h\n9,1,0,1\n"), Err(SideFault::Unknown(1, 1))));
-    assert!(rt;
-        matches!(
-            read(alloc, b"h\n2,1,0,2\n2,1,0,2\n"),
-            Err(SideFault::Twice(2, 1))
-        )
-    );
-    assert!(rt;
-        matches!(
-            read(alloc, b"h\n2,1,0,2\n"),
-            Err(SideFault::Missing(JobNo(0)))
-        )
-    );
+    assert!(rt; refuses(alloc, b"h\n1,1,2,1\n", SideFault::Outside(1, 3)));
+    assert!(rt; refuses(alloc, b"h\n1,1,0,3\n", SideFault::Outside(1, 4)));
+    assert!(rt; refuses(alloc, b"h\n9,1,0,1\n", SideFault::Unknown(1, 1)));
+    assert!(rt; refuses(alloc, b"h\n2,1,0,2\n2,1,0,2\n", SideFault::Twice(2, 1)));
+    assert!(rt; refuses(alloc, b"h\n2,1,0,2\n", SideFault::Missing(JobNo(0))));
 }
 
 #[test]
 fn judges_all_rows_by_csv_first(rt: HostRuntime) {
-    let alloc = rt.alloc();
-    assert!(rt; matches!(read(alloc, b""), Err(SideFault::Csv(CsvFault::NoHeading))));
-    assert!(rt;
-        matches!(
-            read(alloc, b"h\n1,1,0\n"),
-            Err(SideFault::Csv(CsvFault::Width(1, 3)))
-        )
-    );
-    assert!(rt;
-        matches!(
-            read(alloc, b"h\n9,1,0,1\n1,1,0,x\n"),
-            Err(SideFault::Csv(CsvFault::NotNumber(2, 4)))
-        )
-    );
+    let cases: [(&[u8], CsvFault); 3] = [
+        (b"", CsvFault::NoHeading),
+        (b"h\n1,1,0\n", CsvFault::Width(1, 3)),
+        (b"h\n9,1,0,1\n1,1,0,x\n", CsvFault::NotNumber(2, 4)),
+    ];
+    for (text, fault) in cases {
+        assert!(rt;
+            refuses(rt.alloc(), text, SideFault::Csv(fault)),
+            "{text:?}"
+        );
+    }
 }
 
-// What is written of the scenario that this text gives the table.
-fn written(alloc: Global, table: &JobTable, text: &[u8]) -> Option<Vec<u8>> {
-    let scenario = read_scenario(alloc, text, table).ok()?;
-    write_scenario(alloc, table, &scenario).ok()
+// Whether this is written of the scenario that the text gives the table.
+fn writes(alloc: Global, table: &JobTable, text: &[u8], want: &[u8]) -> bool {
+    let Ok(scenario) = read_scenario(alloc, text, table) else {
+        return false;
+    };
+    match write_scenario(alloc, table, &scenario) {
+        Ok(written) => written.as_slice() == want,
+        Err(_) => false,
+    }
 }
 
 #[test]
-fn writes_rows_by_job(rt: HostRuntime) -> Result<(), Fail> {
+fn writes_rows_by_job(rt: HostRuntime) -> Result<(), AllocError> {
     let alloc = rt.alloc();
-    let text = written(alloc, &two_jobs(alloc)?, b"h\n2,1,0,3\n1,1,1,2\n").expect(&rt, "a text");
-    assert_eq!(rt;
-        text.as_slice(),
-        b"Task ID,Job ID,Release,Cost\n1,1,1,2\n2,1,0,3\n".as_slice()
-    );
-    assert_eq!(rt; values(alloc, &text), Some([1, 2, 0, 3]));
-    let none = JobTable::from_rows(alloc, Vec::new(alloc)).expect(&rt, "a table");
-    let text = written(alloc, &none, b"h").expect(&rt, "a text");
-    assert_eq!(rt;
-        text.as_slice(),
-        b"Task ID,Job ID,Release,Cost\n".as_slice()
-    );
+    let table = two_jobs(alloc)?;
+    let want = b"Task ID,Job ID,Release,Cost\n1,1,1,2\n2,1,0,3\n".as_slice();
+    let texts: [&[u8]; 3] = [b"h\n2,1,0,3\n1,1,1,2\n", b"h\n1,1,1,2\n2,1,0,3\n", want];
+    for text in texts {
+        assert!(rt; writes(alloc, &table, text, want), "{text:?}");
+    }
+    Ok(())
+}
+
+#[test]
+fn writes_the_heading_alone(rt: HostRuntime) -> Result<(), AllocError> {
+    let table = table_of(rt.alloc(), &[])?;
+    assert!(rt; writes(rt.alloc(), &table, b"h", b"Task ID,Job ID,Release,Cost\n"));
     Ok(())
 }
 
 // Four jobs: 1 1, 2 1, 3 1 and 4 1.
 fn four_jobs(alloc: Global) -> Result<JobTable, AllocError> {
-    let first = Job {
-        task: 1,
-        job: 1,
-        rmin: 0,
-        rmax: 0,
-        cmin: 1,
-        cmax: 1,
-        deadline: 9,
-        priority: 1,
+    let rows = [
+        Job::from_row([1, 1, 0, 0, 1, 1, 9, 1]),
+        Job::from_row([2, 1, 0, 0, 1, 1, 9, 1]),
+        Job::from_row([3, 1, 0, 0, 1, 1, 9, 1]),
+        Job::from_row([4, 1, 0, 0, 1, 1, 9, 1]),
+    ];
+    table_of(alloc, &rows)
+}
+
+// Whether this text gives four jobs these edges.
+fn gives_edges(alloc: Global, text: &[u8], want: &[(JobNo, JobNo)]) -> bool {
+    let Ok(table) = four_jobs(alloc) else {
+        return false;
     };
-    let mut rows = Vec::new(alloc);
-    for task in 1..5 {
-        rows.push(Job { task, ..first })?;
+    match read_edges(alloc, text, &table) {
+        Ok(edges) => edges.as_slice() == want,
+        Err(_) => false,
     }
-    JobTable::from_rows(alloc, rows).map_err(|_| AllocError)
 }
 
 #[test]
-fn reads_edges_by_row(rt: HostRuntime) -> Result<(), Fail> {
-    let alloc = rt.alloc();
-    let table = four_jobs(alloc)?;
-    for (text, edges) in [
-        ("h\n", [].as_slice()),
-        ("h\n1,1,2,1\n1,1,2,1\n", &[(0, 1), (0, 1)]),
-        ("h\n4,1,3,1\n3,1,3,1\n3,1,4,1\n", &[(3, 2), (2, 2), (2, 3)]),
-    ] {
-        let read = read_edges(alloc, text.as_bytes(), &table).expect(&rt, "edges");
-        let mut numbers = Vec::new(alloc);
-        for (predecessor, successor) in &read {
-            numbers.push((predecessor.0, successor.0))?;
-        }
-        assert_eq!(rt; numbers.as_slice(), edges, "at {text}");
+fn reads_edges_by_row(rt: HostRuntime) {
+    let [first, second, third, fourth] = [JobNo(0), JobNo(1), JobNo(2), JobNo(3)];
+    let cases: [(&[u8], &[(JobNo, JobNo)]); 3] = [
+        (b"h\n", &[]),
+        (
+            b"h\n1,1,2,1\n1,1,2,1\n",
+            &[(first, second), (first, second)],
+        ),
+        (
+            b"h\n4,1,3,1\n3,1,3,1\n3,1,4,1\n",
+            &[(fourth, third), (third, third), (third, fourth)],
+        ),
+    ];
+    for (text, edges) in cases {
+        assert!(rt; gives_edges(rt.alloc(), text, edges), "{text:?}");
     }
-    Ok(())
+}
+
+// Why this text gives four jobs no edges.
+fn edge_fault_of(alloc: Global, text: &[u8]) -> Option<SideFault> {
+    let Ok(table) = four_jobs(alloc) else {
+        return Some(SideFault::Memory);
+    };
+    read_edges(alloc, text, &table).err()
+}
+
+// Whether that is why.
+fn refuses_edges(alloc: Global, text: &[u8], fault: SideFault) -> bool {
+    edge_fault_of(alloc, text) == Some(fault)
 }
 
 #[test]
-fn refuses_edges(rt: HostRuntime) -> Result<(), Fail> {
-    let alloc = rt.alloc();
-    let table = four_jobs(alloc)?;
-    for (text, row, column) in [
-        ("h\n9,1,1,1\n", 1, 1),
-        ("h\n1,1,9,1\n", 1, 3),
-        ("h\n9,1,9,1\n", 1, 1),
-        ("h\n1,1,2,1\n1,1,2,2\n", 2, 3),
-    ] {
-        let read = read_edges(alloc, text.as_bytes(), &table);
-        assert_eq!(rt;
-            read.err(),
-            Some(SideFault::Unknown(row, column)),
-            "at {text}"
+fn judges_edges_by_the_table(rt: HostRuntime) {
+    let cases: [(&[u8], u64, u8); 4] = [
+        (b"h\n9,1,1,1\n", 1, 1),
+        (b"h\n1,1,9,1\n", 1, 3),
+        (b"h\n9,1,9,1\n", 1, 1),
+        (b"h\n1,1,2,1\n1,1,2,2\n", 2, 3),
+    ];
+    for (text, row, column) in cases {
+        assert!(rt;
+            refuses_edges(rt.alloc(), text, SideFault::Unknown(row, column)),
+            "{text:?}"
         );
     }
-    for (text, fault) in [
-        ("", CsvFault::NoHeading),
-        ("h\n1,1,2\n", CsvFault::Width(1, 3)),
-        ("h\n9,1,1,1\n1,1,x,1\n", CsvFault::NotNumber(2, 3)),
-    ] {
-        let read = read_edges(alloc, text.as_bytes(), &table);
-        assert_eq!(rt; read.err(), Some(SideFault::Csv(fault)), "at {text}");
+}
+
+#[test]
+fn judges_all_edges_by_csv_first(rt: HostRuntime) {
+    let cases: [(&[u8], CsvFault); 3] = [
+        (b"", CsvFault::NoHeading),
+        (b"h\n1,1,2\n", CsvFault::Width(1, 3)),
+        (b"h\n9,1,1,1\n1,1,x,1\n", CsvFault::NotNumber(2, 3)),
+    ];
+    for (text, fault) in cases {
+        assert!(rt;
+            refuses_edges(rt.alloc(), text, SideFault::Csv(fault)),
+            "{text:?}"
+        );
     }
-    Ok(())
 }

@@ -1,23 +1,21 @@
 -- A walk over the jobs by rising release, that stops early: what it has collected, in rising order of the numbers.
-use Rattle.std.proofs.Common.{◌≡◌, ℕ, ◌+◌, ◌<◌, ◌≤◌, Bool, true, false, cond, List, [], ◌∷◌, ◌++◌, map, min, max, refl, ap, ◌∙◌, sym, subst, arith, Option, Some, None, ltb, length, get_or}
+use Rattle.std.proofs.Common.{◌≡◌, ℕ, ◌+◌, ◌<◌, ◌≤◌, true, false, List, [], ◌∷◌, ◌++◌, map, max, ap, ◌∙◌, sym, subst, arith, Option, Some, None, ltb, length, get_or}
 use Rattle.std.specs.Prelude.{filter, IfSome, IsSomeAnd, IsPermutation, unwrap_or, ◌&&◌}
-use Rattle.std.specs.Option.{option_map_or}
 use Rattle.std.specs.List.{AllByRecursion, sum_by}
-use Rattle.std.proofs.lemmas.Bool.{cond-true, cond-false}
 use Rattle.std.proofs.lemmas.List.{append-nil, append_assoc}
 use Rattle.std.proofs.lemmas.List.Sorted.{sum_by-IsPermutation}
-use Rattle.lists.specs.Numbers.{least, numbers_below}
+use Rattle.lists.specs.Numbers.{numbers_below}
 use Rattle.job_model.specs.Table.{Table, IsTable, job_at}
 use Rattle.sag_time.specs.Interval.{Interval}
 use Rattle.start_windows.specs.Window.{is_candidate, candidates, latest_ready, certain_start}
-use Rattle.job_model.specs.Releases.{IsReleaseOrder}
-use Rattle.start_windows.specs.Eligible.{IsOpenFrom, first_release, is_open}
+use Rattle.job_model.specs.Releases.{IsReleaseOrder, release_order}
+use Rattle.start_windows.specs.Eligible.{IsFront}
 use Rattle.start_windows.specs.Prospects.{Collected, IsShuffle, is_near, times_in}
 use Rattle.job_sets.specs.Subset.{is_member}
 use Rattle.std.specs.Prelude.{take, drop, not}
-use Rattle.std.proofs.lemmas.List.{drop_more, get_or-take, get_or-drop, length-take, length-drop, take_more, map-append, take-append-drop}
-use Rattle.std.proofs.lemmas.List.Elements.{All-from_get_or, All-map, filter-append, recursion_from_All}
-use Rattle.std.proofs.lemmas.Bool.{ltb-true, and_left, and_right, true_from_ne_false}
+use Rattle.std.proofs.lemmas.List.{get_or-take, get_or-drop, length-take, length-drop, take_more, map-append, take-append-drop}
+use Rattle.std.proofs.lemmas.List.Elements.{All-from_get_or, All-map, recursion_from_All}
+use Rattle.std.proofs.lemmas.Bool.{and_left, and_right}
 use Rattle.start_windows.proofs.Shuffles.{IsShuffle-filter, IsShuffle-from_permutation, hits, least-shuffle, times_in-range}
 use Rattle.start_windows.proofs.Collecting.{Collected-far, Collected-other}
 
@@ -63,19 +61,14 @@ module _ (table : Table) (set : List ℕ) (ends : List (ℕ × Interval)) (first
       omega (arith, sum_by-IsPermutation (hits j) kept sorted again, c.once j, sum_by-IsPermutation (hits j) (numbers_below (length table.jobs)) order moved, times_in-range 0 (length table.jobs) j)
 
 -- the jobs in front of the walk are dispatched
-pub front_dispatched : (table : Table) (set : List ℕ) (order : List (ℕ × ℕ)) (from start : ℕ) → IsReleaseOrder table order → IsOpenFrom table set from → start ≤ length order →
-    ((k : ℕ) (d : ℕ × ℕ) → k < start → ltb (get_or order k d).0 from ≡ true) → AllByRecursion (λ x. is_member x set ≡ true) (map (λ e. e.1) (take start order))
-front_dispatched table set order from start is free short before =
-    recursion_from_All (λ x. is_member x set ≡ true) (map (λ e. e.1) (take start order))
-    (All-map (λ x. is_member x set ≡ true) (λ (e : ℕ × ℕ). e.1) (take start order)
-    (All-from_get_or (λ e. is_member e.1 set ≡ true) (take start order) (0, 0)
-    (λ i lt. let below : i < start = omega (arith, lt, length-take start order) in
-    let there : i < length order = omega arith in
-    subst (λ (e : ℕ × ℕ). is_member e.1 set ≡ true) (sym (get_or-take start order i (0, 0) below))
-    (out (get_or order i (0, 0)) (is.own i (0, 0) there) (before i (0, 0) below)))))
-  where
-    out : (e : ℕ × ℕ) → (e.0 ≡ (job_at table e.1).rmin) × (e.1 < length table.jobs) → ltb e.0 from ≡ true → is_member e.1 set ≡ true
-    out e own early = true_from_ne_false (is_member e.1 set) (λ h. omega (arith, own.0, ltb-true _ _ early, free e.1 own.1 h))
+pub front_dispatched : (table : Table) (set : List ℕ) (order : List (ℕ × ℕ)) (front : ℕ) → order ≡ release_order table → IsFront table set front → AllByRecursion (λ x. is_member x set ≡ true) (map (λ e. e.1) (take front order))
+front_dispatched table set order front own is =
+    recursion_from_All (λ x. is_member x set ≡ true) (map (λ e. e.1) (take front order))
+    (All-map (λ x. is_member x set ≡ true) (λ (e : ℕ × ℕ). e.1) (take front order)
+    (All-from_get_or (λ e. is_member e.1 set ≡ true) (take front order) (0, 0)
+    (λ i lt. let below : i < front = omega (arith, lt, length-take front order) in
+    subst (λ (e : ℕ × ℕ). is_member e.1 set ≡ true) (sym (get_or-take front order i (0, 0) below))
+    (subst (λ (l : List (ℕ × ℕ)). is_member (get_or l i (0, 0)).1 set ≡ true) (sym own) (is.passed i below)))))
 
 -- dispatched jobs are no candidates
 pub no_candidates : (table : Table) (set xs : List ℕ) → AllByRecursion (λ x. is_member x set ≡ true) xs → AllByRecursion (λ x. is_candidate table set x ≡ false) xs
@@ -89,64 +82,6 @@ order_more order place there = ap (map (λ (e : ℕ × ℕ). e.1)) (take_more or
 -- what was seen and what was not
 pub order_split : (order : List (ℕ × ℕ)) (place : ℕ) → map (λ (e : ℕ × ℕ). e.1) (take place order) ++ map (λ e. e.1) (drop place order) ≡ map (λ e. e.1) order
 order_split order place = sym (map-append (λ (e : ℕ × ℕ). e.1) (take place order) (drop place order)) ∙ ap (map (λ (e : ℕ × ℕ). e.1)) (take-append-drop place order)
-
--- ---- the first job of the order that is not dispatched
-
-none_open : (set xs : List ℕ) → AllByRecursion (λ x. is_member x set ≡ true) xs → filter (is_open set) xs ≡ []
-none_open set [] all = refl
-none_open set (x ∷ xs) all = cond-false _ _ _ (ap not all.0) ∙ none_open set xs all.1
-
-least_first : (f : ℕ → ℕ) (p : ℕ → Bool) (m : ℕ) (xs : List ℕ) → AllByRecursion (λ x. m ≤ f x) xs → option_map_or (λ y. min m y) (least (map f (filter p xs))) m ≡ m
-least_first f p m [] all = refl
-least_first f p m (x ∷ xs) all = by_test (p x) (least_first f p m xs all.1)
-  where
-    by_rest : (o : Option ℕ) → option_map_or (λ y. min m y) o m ≡ m → min m (option_map_or (λ y. min (f x) y) o (f x)) ≡ m
-    by_rest None e = omega (arith, all.0)
-    by_rest (Some y) e = omega (arith, all.0, e)
-
-    by_test : (t : Bool) → option_map_or (λ y. min m y) (least (map f (filter p xs))) m ≡ m → option_map_or (λ y. min m y) (least (map f (cond t (x ∷ filter p xs) (filter p xs)))) m ≡ m
-    by_test true e = by_rest (least (map f (filter p xs))) e
-    by_test false e = e
-
-module _ (table : Table) (set : List ℕ) (order : List (ℕ × ℕ)) (is : IsReleaseOrder table order) where
-  by_order : (t : ℕ) → first_release table set t ≡ unwrap_or (least (map (λ j. (job_at table j).rmin) (filter (is_open set) (map (λ e. e.1) order)))) t
-  by_order t = ap (λ o. unwrap_or o t) (least-shuffle (λ j. (job_at table j).rmin) (is_open set) (numbers_below (length table.jobs)) (map (λ e. e.1) order) (IsShuffle-from_permutation (numbers_below (length table.jobs)) (map (λ e. e.1) order) is.each_job))
-
-  pub first_release-at : (t place : ℕ) → place < length order → AllByRecursion (λ x. is_member x set ≡ true) (map (λ e. e.1) (take place order)) → is_member (get_or order place (0, 0)).1 set ≡ false
-      → (get_or order place (0, 0)).0 ≡ first_release table set t
-  first_release-at t place there front out =
-      let e = get_or order place (0, 0) in
-      let f = λ (j : ℕ). (job_at table j).rmin in
-      let later = map (λ (x : ℕ × ℕ). x.1) (drop (place + 1) order) in
-      let own : e.0 ≡ f e.1 = (is.own place (0, 0) there).0 in
-      let after : AllByRecursion (λ x. f e.1 ≤ f x) later = rest_from (place + 1) (f e.1) (λ i below le. omega (arith, own, (is.own i (0, 0) below).0, is.rising place i (0, 0) (omega (arith, le)) below)) in
-      let split : map (λ (x : ℕ × ℕ). x.1) order ≡ map (λ x. x.1) (take place order) ++ e.1 ∷ later =
-      sym (order_split order place) ∙ ap (λ (l : List (ℕ × ℕ)). map (λ (x : ℕ × ℕ). x.1) (take place order) ++ map (λ x. x.1) l) (drop_more order place (0, 0) there) in
-      let passing : filter (is_open set) (map (λ (x : ℕ × ℕ). x.1) order) ≡ e.1 ∷ filter (is_open set) later =
-      ap (filter (is_open set)) split ∙ filter-append (is_open set) (map (λ x. x.1) (take place order)) (e.1 ∷ later) ∙ ap (λ l. l ++ filter (is_open set) (e.1 ∷ later)) (none_open set _ front) ∙ cond-true _ _ _ (ap not out) in
-      let least_is : least (map f (filter (is_open set) (map (λ (x : ℕ × ℕ). x.1) order))) ≡ Some (f e.1) = ap (λ l. least (map f l)) passing ∙ ap Some (least_first f (is_open set) (f e.1) later after) in
-      own ∙ sym (by_order t ∙ ap (λ o. unwrap_or o t) least_is)
-    where
-      rest_from : (start m : ℕ) → ((i : ℕ) → i < length order → start ≤ i → m ≤ (job_at table (get_or order i (0, 0)).1).rmin) → AllByRecursion (λ x. m ≤ (job_at table x).rmin) (map (λ e. e.1) (drop start order))
-      rest_from start m le =
-          recursion_from_All (λ x. m ≤ (job_at table x).rmin) (map (λ e. e.1) (drop start order))
-          (All-map (λ x. m ≤ (job_at table x).rmin) (λ (e : ℕ × ℕ). e.1) (drop start order)
-          (All-from_get_or (λ e. m ≤ (job_at table e.1).rmin) (drop start order) (0, 0)
-          (λ i lt. subst (λ (e : ℕ × ℕ). m ≤ (job_at table e.1).rmin) (sym (get_or-drop start order i (0, 0)))
-          (le (start + i) (omega (arith, lt, length-drop start order)) (omega arith)))))
-
-  pub first_release-none : (t : ℕ) → AllByRecursion (λ x. is_member x set ≡ true) (map (λ e. e.1) order) → t ≡ first_release table set t
-  first_release-none t all = sym (by_order t ∙ ap (λ l. unwrap_or (least (map (λ j. (job_at table j).rmin) l)) t) (none_open set _ all))
-
-  -- one more dispatched job
-  pub dispatched_more : (place : ℕ) → place < length order → AllByRecursion (λ x. is_member x set ≡ true) (map (λ e. e.1) (take place order)) → is_member (get_or order place (0, 0)).1 set ≡ true
-      → AllByRecursion (λ x. is_member x set ≡ true) (map (λ e. e.1) (take (place + 1) order))
-  dispatched_more place there front here =
-      subst (AllByRecursion (λ x. is_member x set ≡ true)) (sym (order_more order place there)) (push (map (λ e. e.1) (take place order)) front)
-    where
-      push : (xs : List ℕ) → AllByRecursion (λ x. is_member x set ≡ true) xs → AllByRecursion (λ x. is_member x set ≡ true) (xs ++ (get_or order place (0, 0)).1 ∷ [])
-      push [] all = (here, tt)
-      push (x ∷ xs) all = (all.0, push xs all.1)
 
 -- where one is released beyond, all that follow are
 pub rest_beyond : (table : Table) (order : List (ℕ × ℕ)) (place m : ℕ) → IsReleaseOrder table order → place < length order → m < (get_or order place (0, 0)).0 →

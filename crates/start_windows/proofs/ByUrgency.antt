@@ -97,7 +97,8 @@ module _ (table : Table) (ends : List (ℕ × Interval)) where
       ap (λ n. min n (capped c (map (λ (x : Prospect). x.latest) seen))) latest ∙ ap (min (ready_beside table ends j x.job)) (alone c j seen own.1 e)
 
   -- the cap of a job behind these
-  pub cap_behind-is : (certain last : ℕ) (seen tied : List Prospect) (j : ℕ) → AllByRecursion (Own table ends) seen → IsLast certain last seen → tied ≡ filter is_tied seen →
+  pub cap_behind-is : (certain last : ℕ) (seen tied : List Prospect) (j : ℕ) → AllByRecursion (Own table ends) seen → IsLast certain last seen →
+      ((c : ℕ) → capped c (map (ready_beside table ends j) (jobs_of tied)) ≡ capped c (map (ready_beside table ends j) (jobs_of (filter is_tied seen)))) →
       cap_behind table ends last (jobs_of tied) j ≡ capped (suc certain) (map (ready_beside table ends j) (jobs_of seen))
   cap_behind-is certain last seen tied j own so_far held = by_test (eqb (length (predecessors table j)) 0) refl
     where
@@ -105,7 +106,7 @@ module _ (table : Table) (ends : List (ℕ × Interval)) where
       by_test true e = so_far.is ∙ alone (suc certain) j seen own (nil_from_length (predecessors table j) (eqb-true _ _ e))
       by_test false e =
           ap (λ c. capped c (map (ready_beside table ends j) (jobs_of tied))) so_far.is
-          ∙ ap (λ (l : List Prospect). capped (capped (suc certain) (map (λ (x : Prospect). x.latest) seen)) (map (ready_beside table ends j) (jobs_of l))) held
+          ∙ held (capped (suc certain) (map (λ (x : Prospect). x.latest) seen))
           ∙ all_and_tied (suc certain) j seen own
 
 -- ---- the more urgent jobs are those in front

@@ -1,11 +1,10 @@
 -- The pass over prospects by falling urgency, step by step.
-use Rattle.std.proofs.Common.{◌≡◌, ◌∙◌, ℕ, suc, ◌+◌, ◌-◌, ◌<◌, ◌≤◌, true, List, [], ◌∷◌, ◌++◌, length, map, max, min, take, drop, get_or, Option, sym, ap, subst, arith}
+use Rattle.std.proofs.Common.{◌≡◌, ◌∙◌, ℕ, suc, ◌+◌, ◌-◌, ◌<◌, ◌≤◌, true, List, [], ◌∷◌, ◌++◌, length, map, max, min, take, drop, get_or, Option, sym, ap, subst}
 use Rattle.std.specs.Prelude.{filter}
 use Rattle.std.specs.List.{AllByRecursion, cons_option, filter_map}
 use Rattle.std.specs.Option.{option_map}
-use Rattle.std.proofs.lemmas.List.{append-nil, drop_more, get_or-drop, map-append, take-append-drop, take_more}
-use Rattle.std.proofs.lemmas.List.Elements.{All-filter, All-take, filter_map-append, recursion_from_All}
-use Rattle.std.proofs.lemmas.List.Filters.{FiltersInPlace}
+use Rattle.std.proofs.lemmas.List.{append-nil, drop_more, map-append, take-append-drop, take_more}
+use Rattle.std.proofs.lemmas.List.Elements.{All-take, filter_map-append, recursion_from_All}
 use Rattle.job_sets.specs.Subset.{is_rising}
 use Rattle.job_model.specs.Table.{Table, IsTable, has_urgency_over}
 use Rattle.job_model.proofs.RankLaws.{ranks_order}
@@ -13,20 +12,10 @@ use Rattle.sag_time.specs.Interval.{Interval}
 use Rattle.start_windows.specs.declared.StartWindow.{StartWindow}
 use Rattle.start_windows.specs.declared.eligibility.Prospect.{Prospect}
 use Rattle.start_windows.specs.Window.{earliest_start, ready_beside}
-use Rattle.start_windows.specs.Prospects.{AreProspects, cap_behind, cap_over, capped, is_tied, jobs_of, offer_over, window_of, window_over}
+use Rattle.start_windows.specs.Prospects.{AreProspects, cap_behind, cap_over, capped, jobs_of, offer_over, window_of, window_over}
 use Rattle.start_windows.proofs.ByUrgency.{IsLast, IsLast-more, Own, cap_behind-is, none_behind, urgent_in_front}
 use Rattle.start_windows.proofs.Collecting.{offer_more}
-
--- what is still to be read stands where it stood
-pub read_moved : (all ranked : List Prospect) (tied place : ℕ) (x : Prospect) → FiltersInPlace is_tied all ranked tied place → x ≡ get_or ranked place x → x ≡ get_or all place x
-read_moved all ranked tied place x moved is =
-    let at : (l : List Prospect) → get_or (drop place l) 0 x ≡ get_or l place x = λ (l : List Prospect). get_or-drop place l 0 x ∙ ap (λ n. get_or l n x) (omega arith) in
-    is ∙ sym (at ranked) ∙ ap (λ (l : List Prospect). get_or l 0 x) moved.rest ∙ at all
-
--- the tied ones in front are looked up
-pub tied_prospects : (table : Table) (ends : List (ℕ × Interval)) (all ranked : List Prospect) (tied place : ℕ) → FiltersInPlace is_tied all ranked tied place → AreProspects table ends all → AreProspects table ends (take tied ranked)
-tied_prospects table ends all ranked tied place moved own =
-    subst (AreProspects table ends) (sym moved.front) (All-filter is_tied (Own table ends) (take place all) (All-take (Own table ends) place all own))
+use Rattle.start_windows.proofs.Held.{IsHeld}
 
 -- one more prospect
 pub front_more : (all : List Prospect) (place : ℕ) (x : Prospect) → place < length all → x ≡ get_or all place x → take (place + 1) all ≡ take place all ++ x ∷ []
@@ -46,9 +35,9 @@ module _ (table : Table) (is_table : IsTable table) (ends : List (ℕ × Interva
       subst (λ (l : List Prospect). AllByRecursion (Own table ends) l × (is_rising (map (λ c. c.rank) l) ≡ true)) (split_at all place x below is) (recursion_from_All (Own table ends) all own, up)
 
   -- the window behind the front is the window among all
-  pub window_at : (place : ℕ) (x : Prospect) (last : ℕ) (held : List Prospect) → place < length all → x ≡ get_or all place x → IsLast certain last (take place all) → held ≡ filter is_tied (take place all) →
+  pub window_at : (place : ℕ) (x : Prospect) (last : ℕ) (held : List Prospect) → place < length all → x ≡ get_or all place x → IsLast certain last (take place all) → IsHeld table ends (take place all) held →
       window_of (max x.earliest first.lo) (cap_behind table ends last (jobs_of held) x.job) ≡ window_over table ends first certain (jobs_of all) x.job
-  window_at place x last held below is so_far tied =
+  window_at place x last held below is so_far kept =
       let before = take place all in
       let after = drop (place + 1) all in
       let split = split_at all place x below is in
@@ -58,7 +47,7 @@ module _ (table : Table) (is_table : IsTable table) (ends : List (ℕ × Interva
       let urgent : filter (λ y. has_urgency_over table y x.job) (jobs_of all) ≡ jobs_of before =
       ap (λ (l : List Prospect). filter (λ y. has_urgency_over table y x.job) (jobs_of l)) split ∙ urgent_in_front ranks_order table is_table ends before x after parts.0 parts.1 in
       let cap : cap_behind table ends last (jobs_of held) x.job ≡ cap_over table ends certain (jobs_of all) x.job =
-      cap_behind-is table ends certain last before held x.job seen so_far tied ∙ ap (λ l. capped (suc certain) (map (ready_beside table ends x.job) l)) (sym urgent) in
+      cap_behind-is table ends certain last before held x.job seen so_far (kept.limits x.job) ∙ ap (λ l. capped (suc certain) (map (ready_beside table ends x.job) l)) (sym urgent) in
       let est : max x.earliest first.lo ≡ earliest_start table ends first x.job = ap (λ (y : Prospect). max y.earliest first.lo) looked.0 in
       ap (window_of (max x.earliest first.lo)) cap ∙ ap (λ n. window_of n (cap_over table ends certain (jobs_of all) x.job)) est
 

@@ -2,6 +2,8 @@ mod ByRelease
 mod ByUrgency
 mod Caps
 mod Collecting
+mod Fronts
+mod Held
 pub mod EndLists
 mod InOrder
 mod Passing

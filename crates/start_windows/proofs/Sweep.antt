@@ -1,21 +1,20 @@
 -- The windows of a state from those candidates that may be released by the moment at which some job certainly starts.
-use Rattle.std.proofs.Common.{◌≡◌, ◌∙◌, ℕ, zero, suc, ◌<◌, ◌≤◌, Bool, true, false, cond, inl, inr, List, [], ◌∷◌, map, min, not, Option, Some, None, refl, sym, ap, subst, arith, length, get_or}
-use Rattle.std.specs.Prelude.{IsPermutation, filter, unwrap_or}
+use Rattle.std.proofs.Common.{◌≡◌, ◌∙◌, ℕ, suc, ◌≤◌, true, false, cond, List, [], ◌∷◌, map, not, Option, Some, None, refl, sym, ap, subst, arith, length}
+use Rattle.std.specs.Prelude.{IsPermutation, filter}
 use Rattle.std.specs.List.{AllByRecursion, cons_option, filter_map, sum_by}
 use Rattle.std.specs.List.Sorted.{IsNonDecreasingBy}
-use Rattle.std.specs.Option.{is_some, option_map, option_map_or}
-use Rattle.std.proofs.lemmas.Bool.{cases_Bool, cond-true, cond-false, leb-false, not_from_false}
+use Rattle.std.specs.Option.{is_some, option_map}
+use Rattle.std.proofs.lemmas.Bool.{leb-false}
 use Rattle.std.proofs.lemmas.List.Elements.{All-from_recursion, recursion_from_All}
 use Rattle.std.proofs.lemmas.List.Sorted.{All-permutation, IsPermutation-map, sum_by-IsPermutation}
-use Rattle.std.proofs.lemmas.List.FromFn.{get_or-range_with_len, length-range_with_len}
 use Rattle.job_sets.specs.Subset.{is_member}
-use Rattle.lists.specs.Numbers.{least, numbers_below}
+use Rattle.lists.specs.Numbers.{numbers_below}
 use Rattle.job_model.specs.Table.{Table, IsTable, job_at, has_urgency_over, predecessors}
 use Rattle.sag_time.specs.Interval.{Interval}
 use Rattle.start_windows.specs.Ends.{high_end}
 use Rattle.start_windows.specs.declared.StartWindow.{StartWindow}
 use Rattle.start_windows.specs.Window.{is_candidate, candidates, latest_ready, earliest_start, certain_start, ready_beside, start_window}
-use Rattle.start_windows.specs.Eligible.{IsOpenFrom, eligible_windows, first_release, is_open, with_window}
+use Rattle.start_windows.specs.Eligible.{eligible_windows, with_window}
 use Rattle.start_windows.specs.Prospects.{IsShuffle, cap_over, capped, is_near, offer_over, window_of, window_over}
 use Rattle.start_windows.proofs.Caps.{capped-kept, capped-le, filter-filter, filter-kept, filter_map-filter, filter_map-same, greatest-filter-le, window-capped, window_of-none}
 use Rattle.start_windows.proofs.Shuffles.{IsShuffle-filter, Rises-by, Rises-filter, Rises-range, capped-shuffle, hits, rises-unique}
@@ -135,30 +134,3 @@ module _ (table : Table) (ends : List (ℕ × Interval)) (first : Interval) wher
       let back : filter_map offer all ≡ eligible_windows table set ends first =
       subst (λ (u : ℕ). filter_map (offer_over table ends first u all) all ≡ eligible_windows table set ends first) (sym is) (sym (eligible-candidates set)) in
       own_windows window into own ∙ ap (filter_map offer) jobs ∙ sym (offered-has window all) ∙ back
-
--- ---- the first release of the jobs that are not dispatched
-
-least-at : (f : ℕ → ℕ) (p : ℕ → Bool) (xs : List ℕ) (k d : ℕ) → k < length xs → p (get_or xs k d) ≡ true → (y : ℕ) × (least (map f (filter p xs)) ≡ Some y) × (y ≤ f (get_or xs k d))
-least-at f p [] k d below passes = absurd (omega (arith, below))
-least-at f p (x ∷ xs) zero d below passes =
-    (option_map_or (min (f x)) (least (map f (filter p xs))) (f x), ap (λ l. least (map f l)) (cond-true (p x) (x ∷ filter p xs) (filter p xs) passes), by_rest (least (map f (filter p xs))))
-  where
-    by_rest : (o : Option ℕ) → option_map_or (min (f x)) o (f x) ≤ f x
-    by_rest None = omega arith
-    by_rest (Some y) = omega arith
-least-at f p (x ∷ xs) (suc k) d below passes =
-    let (y, is, le) = least-at f p xs k d (omega (arith, below)) passes in
-    elim (cases_Bool (p x)) [
-      | inl here ↦
-          (min (f x) y, ap (λ l. least (map f l)) (cond-true (p x) (x ∷ filter p xs) (filter p xs) here) ∙ ap (λ o. Some (option_map_or (min (f x)) o (f x))) is, omega (arith, le))
-      | inr other ↦ (y, ap (λ l. least (map f l)) (cond-false (p x) (x ∷ filter p xs) (filter p xs) other) ∙ is, le)
-    ]
-
-pub first_release-open : (table : Table) (set : List ℕ) (t : ℕ) → IsOpenFrom table set (first_release table set t)
-first_release-open table set t j below out =
-    let n = length table.jobs in
-    let release = λ (i : ℕ). (job_at table i).rmin in
-    let at : get_or (numbers_below n) j 0 ≡ j = get_or-range_with_len 0 n j 0 below ∙ (omega arith) in
-    let (y, is, le) = least-at release (is_open set) (numbers_below n) j 0 (omega (arith, below, length-range_with_len 0 n)) (rw at (not_from_false (is_member j set) out)) in
-    let first : first_release table set t ≡ y = ap (λ o. unwrap_or o t) is in
-    omega (arith, first, le, ap release at)

@@ -1,13 +1,15 @@
--- All jobs that may be the next to start.
---     eligible_windows      each such job with its window, by rising number
---     IsOpenFrom table set t       no job that is not dispatched is released before t
---     first_release table set t    the first release of those jobs, or t where there are none
-use Rattle.std.specs.Prelude.{◌≡◌, ◌<◌, ◌≤◌, ℕ, Bool, false, List, filter, length, map, not, Option, unwrap_or}
+-- All jobs that may be the next to start, and where the jobs begin that are not dispatched.
+--     eligible_windows            each such job with its window, by rising number
+--     leading_members set order   how many first jobs of an order are in the set
+--     front_of table set          the same of the order of release
+--     IsFront table set front     so many first jobs of the order of release, or more, are in the set
+use Rattle.std.specs.Prelude.{◌≡◌, ◌<◌, ◌≤◌, ℕ, suc, true, List, [], ◌∷◌, length, Option, slice_index_or, if◌then◌else◌}
 use Rattle.std.specs.List.{filter_map}
 use Rattle.std.specs.Option.{option_map}
 use Rattle.job_sets.specs.Subset.{is_member}
-use Rattle.lists.specs.Numbers.{least, numbers_below}
-use Rattle.job_model.specs.Table.{Table, job_at}
+use Rattle.lists.specs.Numbers.{numbers_below}
+use Rattle.job_model.specs.Releases.{release_order}
+use Rattle.job_model.specs.Table.{Table}
 use Rattle.sag_time.specs.Interval.{Interval}
 use Rattle.start_windows.specs.declared.StartWindow.{StartWindow}
 use Rattle.start_windows.specs.Window.{start_window}
@@ -20,14 +22,16 @@ with_window table set ends first j = option_map (λ w. (j, w)) (start_window tab
 abbrev pub eligible_windows : Table → List ℕ → List (ℕ × Interval) → Interval → List (ℕ × StartWindow)
 eligible_windows table set ends first = filter_map (with_window table set ends first) (numbers_below (length table.jobs))
 
--- the job is not dispatched
-abbrev pub is_open : List ℕ → ℕ → Bool
-is_open set j = not (is_member j set)
+-- how many first jobs of the order are in the set: each entry has a release and a job
+abbrev pub leading_members : List ℕ → List (ℕ × ℕ) → ℕ
+leading_members set [] = 0
+leading_members set (e ∷ order) = if is_member e.1 set then suc (leading_members set order) else 0
 
--- no job that is not dispatched is released before t
-abbrev pub IsOpenFrom : Table → List ℕ → ℕ → Type 0
-IsOpenFrom table set t = (j : ℕ) → j < length table.jobs → is_member j set ≡ false → t ≤ (job_at table j).rmin
+-- how many first jobs of the order of release are in the set
+abbrev pub front_of : Table → List ℕ → ℕ
+front_of table set = leading_members set (release_order table)
 
--- the earliest release of the jobs that are not dispatched, or t where all are
-abbrev pub first_release : Table → List ℕ → ℕ → ℕ
-first_release table set t = unwrap_or (least (map (λ j. (job_at table j).rmin) (filter (is_open set) (numbers_below (length table.jobs))))) t
+-- A place in the order of release: each job before it is in the set.
+pub record IsFront (table : Table) (set : List ℕ) (front : ℕ) : Type 0 where
+  pub in_order : front ≤ length table.jobs
+  pub passed : (k : ℕ) → k < front → is_member (slice_index_or (release_order table) k (0, 0)).1 set ≡ true

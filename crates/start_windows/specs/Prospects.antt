@@ -6,11 +6,12 @@
 --     prospect_of, AreProspects              what is looked up of candidates
 --     IsByUrgency cs           each of the prospects is more urgent than all later ones
 --     is_tied c                whether predecessors hold it up after its latest release
+--     IsBehindOne held c       one of these waits for the same jobs as c, and is released no later
 --     cap_behind               the cap of a job behind some that are more urgent
 --     IsShuffle xs ys          the same numbers, as often, in any order
 --     times_in xs j            how often j is in the list
 --     Collected                what a walk over some jobs has collected
-use Rattle.std.specs.Prelude.{◌≡◌, ◌≤◌, ◌<◌, ℕ, suc, Bool, List, [], ◌∷◌, ◌-◌, ◌==◌, length, min, max, nat_lt, nat_le, not, map, filter, All, IfSome, IsTrue, Option, Some, None, if◌then◌else◌}
+use Rattle.std.specs.Prelude.{◌≡◌, ◌≤◌, ◌<◌, ℕ, suc, Bool, List, [], ◌∷◌, ◌-◌, ◌==◌, length, min, max, nat_lt, nat_le, not, map, filter, All, IfSome, IsTrue, Option, Some, None, slice_index_or, if◌then◌else◌}
 use Rattle.std.specs.List.{count_by, sum_by}
 use Rattle.std.specs.Option.{option_map}
 use Rattle.job_sets.specs.Subset.{is_rising}
@@ -66,6 +67,15 @@ IsByUrgency found = IsTrue (is_rising (map (λ c. c.rank) found))
 -- predecessors hold it up after its latest release
 abbrev pub is_tied : Prospect → Bool
 is_tied c = not (c.latest == c.released)
+
+-- one of these waits for the same jobs, and is released no later
+pub record IsBehindOne (table : Table) (held : List Prospect) (c : Prospect) : Type 0 where
+  pub place : ℕ
+  pub one : Prospect
+  pub there : place < length held
+  pub read : one ≡ slice_index_or held place one
+  pub not_later : one.released ≤ c.released
+  pub same : predecessors table one.job ≡ predecessors table c.job
 
 -- The cap of j behind more urgent jobs: after `last` one of them is certainly ready, and these are the tied ones. A job
 -- without predecessors shares none of theirs.

@@ -1,15 +1,15 @@
 //! Which jobs may be the next to start.
 
 ghost use Rattle.std.specs.Prelude.{◌≡◌, ◌<◌, ◌↔◌, ◌++◌, [], suc, IfOk, IsSomeAnd, IsTrue, OnOk, filter, length, map, max};
+ghost use Rattle.std.specs.Bool.{OnTrue};
 ghost use Rattle.std.specs.List.{cons_option, filter_map};
 ghost use Rattle.std.specs.Option.{option_map};
-ghost use Rattle.job_model.specs.Releases.{IsReleaseOrder};
+ghost use Rattle.job_model.specs.Releases.{IsReleaseOrder, release_order};
 ghost use Rattle.job_model.specs.Table.{IsTable};
 ghost use Rattle.start_windows.specs.Window as windows;
-ghost use Rattle.start_windows.specs.Eligible.{IsOpenFrom, eligible_windows};
-ghost use Rattle.start_windows.specs.Eligible as all;
+ghost use Rattle.start_windows.specs.Eligible.{IsFront, eligible_windows};
 ghost use Rattle.start_windows.specs.Prospects as prospects;
-ghost use Rattle.start_windows.specs.Prospects.{AreProspects, Collected, IsByUrgency, IsShuffle, cap_behind, capped, is_near, jobs_of, offer_over, prospect_of, window_of};
+ghost use Rattle.start_windows.specs.Prospects.{AreProspects, Collected, IsBehindOne, IsByUrgency, IsShuffle, cap_behind, capped, is_near, jobs_of, offer_over, prospect_of, window_of};
 
 use crate::windows::{candidate, earliest_ready, latest_ready, lesser, ready_beside};
 use crate::{Ends, StartWindow};
@@ -63,7 +63,7 @@ fn comes_after(ready: Option<u64>, first: u64, release: u64) -> bool
     }
 }
 
-// Looks up the candidates by rising release, from the first that may not be dispatched to the first
+// Looks up the candidates by rising release, from the front to the first
 // that is released too late to matter, and gives the first moment at which one of them is certainly
 // ready.
 fn walk(
@@ -72,12 +72,13 @@ fn walk(
     ends: &Ends,
     first: Span,
     order: &[(u64, JobNo)],
-    from: u64,
+    front: u16,
     found: &mut Vec<Prospect>,
 ) -> Result<Option<u64>, AllocError>
     requires size { set.now.size ≡ length table.now.jobs }
     requires order { IsReleaseOrder table.now order.now }
-    requires from { IsOpenFrom table.now set.now.members from }
+    requires own { order.now ≡ release_order table.now }
+    requires front { IsFront table.now set.now.members front }
     ensures table { IsTable table.now }
     ensures prospects { OnOk result (AreProspects table.now ends.now.items found.new.items) }
     ensures collected { IfOk result (λ ready. Collected table.now set.now.members ends.now.items first
@@ -85,9 +86,8 @@ fn walk(
 {
     found.clear();
     let _count = table.len();
-    let start = order.partition_point(|entry| entry.0 < from);
     let mut ready = None;
-    for place in start..order.len() {
+    for place in usize::from(front)..order.len() {
         let entry = order[place];
         if comes_after(ready, first.hi(), entry.0) {
             return Ok(ready);
@@ -108,12 +108,13 @@ fn collect(
     ends: &Ends,
     first: Span,
     order: &[(u64, JobNo)],
-    from: u64,
+    front: u16,
     found: &mut Vec<Prospect>,
 ) -> Result<u64, AllocError>
     requires size { set.now.size ≡ length table.now.jobs }
     requires order { IsReleaseOrder table.now order.now }
-    requires from { IsOpenFrom table.now set.now.members from }
+    requires own { order.now ≡ release_order table.now }
+    requires front { IsFront table.now set.now.members front }
     ensures table { IsTable table.now }
     ensures prospects { OnOk result (AreProspects table.now ends.now.items found.new.items) }
     ensures urgency { OnOk result (IsByUrgency found.new.items) }
@@ -121,7 +122,7 @@ fn collect(
     ensures near { IfOk result (λ w. IsShuffle (filter (is_near table.now w) (jobs_of found.new.items))
         (filter (is_near table.now w) (windows.candidates table.now set.now.members))) }
 {
-    let ready = walk(table, set, ends, first, order, from, found)?;
+    let ready = walk(table, set, ends, first, order, front, found)?;
     found.sort_unstable_by_key(|item| item.rank);
     Ok(first.hi().max(ready.unwrap_or(0)))
 }
@@ -203,6 +204,19 @@ fn push_window(
     Ok(())
 }
 
+// Whether one of these waits for the same jobs and is released no later: it is there no later, whichever of those jobs
+// have finished.
+fn is_behind_one(table: &JobTable, held: &[Prospect], item: &Prospect) -> bool
+    ensures { OnTrue result (IsBehindOne table.now held.now item.now) }
+{
+    for other in held {
+        if other.released <= item.released && table.preds(other.job) == table.preds(item.job) {
+            return true;
+        }
+    }
+    false
+}
+
 // Lists the prospects that have a window, with it. They stand by falling urgency, and are in
 // disorder after that.
 fn windows_by_urgency(
@@ -222,7 +236,7 @@ fn windows_by_urgency(
     into.clear();
     // the last start before one of the jobs so far is certainly ready
     let mut last = certain;
-    // the tied ones are kept at the start of the list
+    // the tied ones are kept at the start of the list, but for those that another is there before
     let mut tied = 0;
     for place in 0..ranked.len() {
         let item = ranked[place];
@@ -232,7 +246,7 @@ fn windows_by_urgency(
             return Ok(());
         }
         last = last.min(item.latest - 1);
-        if is_tied(&item) {
+        if is_tied(&item) && !is_behind_one(table, &ranked[..tied], &item) {
             ranked[tied] = item;
             tied += 1;
         }
@@ -240,46 +254,26 @@ fn windows_by_urgency(
     Ok(())
 }
 
-// The earliest release of the jobs that are not dispatched, or `from` where all are.
-fn first_release(table: &JobTable, set: &JobSet, order: &[(u64, JobNo)], from: u64) -> u64
-    requires size { set.now.size ≡ length table.now.jobs }
-    requires order { IsReleaseOrder table.now order.now }
-    requires from { IsOpenFrom table.now set.now.members from }
-    ensures { result ≡ all.first_release table.now set.now.members from }
-{
-    let start = order.partition_point(|entry| entry.0 < from);
-    for place in start..order.len() {
-        let entry = order[place];
-        if !set.has(entry.1) {
-            return entry.0;
-        }
-    }
-    from
-}
-
 /// Lists each job that may be the next to start, with its window, by rising number. `first` has the
-/// moments from which a core is possibly and from which one is certainly free. `from` is a moment
-/// before which no job is released that is not dispatched: 0 always serves, and the answer is the
-/// latest such moment, or `from` where all jobs are dispatched. It serves for each greater set too.
+/// moments from which a core is possibly and from which one is certainly free. `front` is a place in the
+/// order of release before which all jobs are dispatched: 0 always serves, and the walk begins there.
 /// `found` is room to work in. After want of memory both lists may hold anything.
 pub fn eligible(
     table: &JobTable,
     set: &JobSet,
     ends: &Ends,
     first: Span,
-    from: u64,
+    front: u16,
     found: &mut Vec<Prospect>,
     into: &mut Vec<(JobNo, StartWindow)>,
-) -> Result<u64, AllocError>
+) -> Result<(), AllocError>
     requires size { set.now.size ≡ length table.now.jobs }
-    requires from { IsOpenFrom table.now set.now.members from }
+    requires front { IsFront table.now set.now.members front }
     ensures windows { OnOk result (into.new.items ≡ eligible_windows table.now set.now.members ends.now.items first) }
-    ensures next { IfOk result (λ next. next ≡ all.first_release table.now set.now.members from) }
-    ensures from { IfOk result (IsOpenFrom table.now set.now.members) }
 {
     let order = table.by_release();
-    let certain = collect(table, set, ends, first, order, from, found)?;
+    let certain = collect(table, set, ends, first, order, front, found)?;
     windows_by_urgency(table, ends, first, certain, found, into)?;
     into.sort_unstable_by_key(|(job, _)| job.0);
-    Ok(first_release(table, set, order, from))
+    Ok(())
 }

@@ -3,6 +3,7 @@
 
 mod eligibility;
 mod ends;
+mod front;
 mod laws;
 #[cfg(test)]
 mod tests;
@@ -10,7 +11,8 @@ mod windows;
 
 pub use eligibility::{Prospect, eligible};
 pub use ends::Ends;
-pub use laws::some_job_is_eligible;
+pub use front::front_from;
+pub use laws::{fronts_are_handed_down, some_job_is_eligible};
 pub use windows::{candidate, window};
 
 /// The first and the last moment at which a job may be the next to start.

@@ -1,179 +1,153 @@
 //! Worked states, and lists of ends.
 
-ghost use Rattle.std.specs.Prelude.{◌≡◌, ◌<◌, IfOk, length};
+ghost use Rattle.std.specs.Prelude.{◌≡◌, IfSome, length};
 ghost use Rattle.job_model.specs.Neighbours.{JoinJobs};
 
-use crate::{Ends, Prospect, StartWindow, candidate, eligible, window};
-use job_model::{Job, JobTable};
-use job_sets::{JobNo, JobSet};
+use crate::{Ends, StartWindow, candidate, eligible, front_from, fronts_are_handed_down, window};
+use job_model::{JobNo, JobTable};
+use job_sets::JobSet;
 use sag_time::Span;
-use std::alloc::{AllocError, Global};
+use small_tables::{NotATable, blocking, build_table, one_predecessor, wide_release};
+use std::alloc::Global;
 use std::test::Fail;
 
-// The first job of a task: its releases, its costs and its priority.
-fn job(task: u64, (rmin, rmax): (u64, u64), (cmin, cmax): (u64, u64), priority: u64) -> Job {
-    Job {
-        task,
-        job: 1,
-        rmin,
-        rmax,
-        cmin,
-        cmax,
-        deadline: 99,
-        priority,
-    }
-}
+// A job and the first and the last moment of an interval.
+type Item = (u16, u64, u64);
 
-// These edges between jobs of the table: predecessor, successor.
-fn edges_of(
-    alloc: Global,
-    table: &JobTable,
-    edges: &[(u16, u16)],
-) -> Result<Vec<(JobNo, JobNo)>, AllocError>
-    ensures { IfOk result (λ rows. JoinJobs (length table.now.jobs) rows.items) }
-{
-    let mut rows = Vec::new(alloc);
-    for (before, after) in edges {
-        if *before < table.len() && *after < table.len() {
-            rows.push((JobNo(*before), JobNo(*after)))?;
-        }
-    }
-    Ok(rows)
-}
-
-// The table of these rows, with these precedence edges.
-fn table_of(alloc: Global, rows: &[Job], edges: &[(u16, u16)]) -> Result<JobTable, Fail> {
-    let table = JobTable::from_rows(alloc, rows.to_vec(alloc)?)?;
-    let edges = edges_of(alloc, &table, edges)?;
-    let Ok(table) = table.with_edges(alloc, &edges) else {
-        return Err("the edges close no cycle")?;
-    };
-    Ok(table)
-}
+// The dispatched jobs, the end of one of them, and when a core is possibly and when one is certainly
+// free; the front, and the windows of the jobs that may be the next.
+type Worked<'a> = (&'a [u16], Option<Item>, (u64, u64), u16, &'a [Item]);
 
 // The set of these jobs of the table.
-fn set_of(alloc: Global, table: &JobTable, members: &[u16]) -> Result<JobSet, AllocError>
-    ensures { IfOk result (λ set. set.size ≡ length table.now.jobs) }
+fn set_of(alloc: Global, table: &JobTable, members: &[u16]) -> Option<JobSet>
+    ensures { IfSome result (λ set. set.size ≡ length table.now.jobs) }
 {
-    let mut set = JobSet::empty(alloc, table.len())?;
+    let mut set = JobSet::empty(alloc, table.len()).ok()?;
     for no in members {
         if *no < table.len() {
             set.add(JobNo(*no));
         }
     }
-    Ok(set)
+    Some(set)
 }
 
-// The list of these jobs and intervals, by rising number.
-fn ends_of(alloc: Global, items: &[(u16, u64, u64)]) -> Result<Ends, Fail> {
-    let mut ends = Ends::new(alloc);
-    for (no, lo, hi) in items {
-        let span = Span::new(*lo, *hi).ok_or("the interval is in order")?;
-        if ends.len() < 9 && !ends.push(JobNo(*no), span)? {
-            return Err("the numbers rise")?;
-        }
+// The list of that end, if there is one.
+fn ends_of(alloc: Global, end: Option<Item>) -> Option<Ends> {
+    let mut ends = Ends::with_room(alloc, 1).ok()?;
+    if let Some((no, lo, hi)) = end {
+        ends.put(JobNo(no), Span::new(lo, hi)?);
     }
-    Ok(ends)
+    Some(ends)
 }
 
-// The jobs that may be the next to start, with their windows, job by job.
-fn plain_eligible(
+// Whether these are the windows that `eligible` lists, from the front on, and whether the front is at that place.
+fn lists(
     alloc: Global,
     table: &JobTable,
     set: &JobSet,
     ends: &Ends,
     first: Span,
-) -> Result<Vec<(JobNo, StartWindow)>, AllocError>
+    place: u16,
+    windows: &[Item],
+) -> bool
     requires { set.now.size ≡ length table.now.jobs }
 {
-    let mut list = Vec::new(alloc);
+    fronts_are_handed_down();
+    let front = front_from(table, set, 0);
+    let mut found = Vec::new(alloc);
+    let mut into = Vec::new(alloc);
+    if eligible(table, set, ends, first, front, &mut found, &mut into).is_err() {
+        return false;
+    }
+    front == place && are_windows(&into, windows)
+}
+
+// Whether these jobs have these windows.
+fn are_windows(listed: &[(JobNo, StartWindow)], windows: &[Item]) -> bool {
+    listed.len() == windows.len()
+        && listed.iter().zip(windows).all(|(item, other)| (item.0.0, item.1.est, item.1.lst)
+            == *other)
+}
+
+// The window that stands in the list for the job.
+fn window_in(windows: &[Item], no: u16) -> Option<StartWindow> {
+    let (_, est, lst) = windows.iter().find(|item| item.0 == no)?;
+    Some(StartWindow {
+        est: *est,
+        lst: *lst,
+    })
+}
+
+// Whether these are the windows job by job.
+fn each_has(table: &JobTable, set: &JobSet, ends: &Ends, first: Span, windows: &[Item]) -> bool
+    requires { set.now.size ≡ length table.now.jobs }
+{
     for no in 0..table.len() {
         let job = JobNo(no);
-        if candidate(table, set, job)
-            && let Some(found) = window(table, set, ends, first, job)
-        {
-            list.push((job, found))?;
+        let found = window(table, set, ends, first, job);
+        if found != window_in(windows, no) || found.is_some() && !candidate(table, set, job) {
+            return false;
         }
     }
-    Ok(list)
+    true
 }
 
-// The same by `eligible`, if it finds the same.
-fn both_ways(
-    alloc: Global,
-    table: &JobTable,
-    set: &JobSet,
-    ends: &Ends,
-    first: Span,
-) -> Result<Vec<(JobNo, StartWindow)>, Fail>
-    requires { set.now.size ≡ length table.now.jobs }
+// Whether the state of the table, if there is one, has that front and these windows.
+fn finds(alloc: Global, table: Result<JobTable, NotATable>, worked: Worked) -> bool {
+    let (members, end, (lo, hi), front, windows) = worked;
+    let Ok(table) = table else {
+        return false;
+    };
+    let Some(set) = set_of(alloc, &table, members) else {
+        return false;
+    };
+    let Some(ends) = ends_of(alloc, end) else {
+        return false;
+    };
+    let Some(first) = Span::new(lo, hi) else {
+        return false;
+    };
+    lists(alloc, &table, &set, &ends, first, front, windows)
+        && each_has(&table, &set, &ends, first, windows)
+}
+
+#[test]
+fn finds_the_windows_of_worked_states(rt: HostRuntime) {
+    let alloc = rt.alloc();
+    let root: Worked = (&[], None, (0, 0), 0, &[(0, 0, 0), (1, 0, 0)]);
+    assert!(rt; finds(alloc, blocking(alloc), root));
+    let blocked: Worked = (&[1], None, (2, 3), 0, &[(0, 2, 3)]);
+    assert!(rt; finds(alloc, blocking(alloc), blocked));
+    let late: Worked = (&[], None, (0, 0), 0, &[(0, 0, 4), (1, 5, 5)]);
+    assert!(rt; finds(alloc, wide_release(alloc), late));
+}
+
+// Three jobs, of which those wait for the first.
+fn waiting(alloc: Global, pairs: &[(JobNo, JobNo)]) -> Result<JobTable, NotATable>
+    requires { JoinJobs 3 pairs.now }
 {
-    let mut found: Vec<Prospect> = Vec::new(alloc);
-    let mut into = Vec::new(alloc);
-    eligible(table, set, ends, first, 0, &mut found, &mut into)?;
-    let plain = plain_eligible(alloc, table, set, ends, first)?;
-    if plain.as_slice() != into.as_slice() {
-        return Err("both find the same")?;
-    }
-    Ok(into)
-}
-
-// The job, the earliest and the latest start of each job that may be the next.
-fn listed(
-    alloc: Global,
-    table: &JobTable,
-    members: &[u16],
-    items: &[(u16, u64, u64)],
-    (lo, hi): (u64, u64),
-) -> Result<Vec<(u16, u64, u64)>, Fail> {
-    let set = set_of(alloc, table, members)?;
-    let ends = ends_of(alloc, items)?;
-    let first = Span::new(lo, hi).ok_or("the interval is in order")?;
-    let mut list = Vec::new(alloc);
-    for (no, window) in both_ways(alloc, table, &set, &ends, first)? {
-        list.push((no.0, window.est, window.lst))?;
-    }
-    Ok(list)
-}
-
-#[test]
-fn finds_the_windows_of_worked_states(rt: HostRuntime) -> Result<(), Fail> {
-    let alloc = rt.alloc();
-    let blocked = [job(1, (0, 1), (1, 2), 1), job(2, (0, 0), (2, 3), 2)];
-    let table = table_of(alloc, &blocked, &[])?;
-    let root = listed(alloc, &table, &[], &[], (0, 0))?;
-    assert_eq!(rt; root.as_slice(), [(0, 0, 0), (1, 0, 0)].as_slice());
-    let behind = listed(alloc, &table, &[1], &[], (2, 3))?;
-    assert_eq!(rt; behind.as_slice(), [(0, 2, 3)].as_slice());
-    let urgent = [job(1, (0, 10), (1, 1), 2), job(2, (5, 5), (1, 1), 1)];
-    let table = table_of(alloc, &urgent, &[])?;
-    let root = listed(alloc, &table, &[], &[], (0, 0))?;
-    assert_eq!(rt; root.as_slice(), [(0, 0, 4), (1, 5, 5)].as_slice());
-    Ok(())
-}
-
-#[test]
-fn finds_the_windows_of_jobs_with_predecessors(rt: HostRuntime) -> Result<(), Fail> {
-    let alloc = rt.alloc();
     let rows = [
-        job(1, (0, 0), (2, 4), 1),
-        job(2, (0, 0), (1, 1), 2),
-        job(3, (0, 0), (1, 2), 3),
+        [1, 1, 0, 0, 2, 4, 99, 1],
+        [2, 1, 0, 0, 1, 1, 99, 2],
+        [3, 1, 0, 0, 1, 2, 99, 3],
     ];
-    let last_waits = table_of(alloc, &rows, &[(0, 2)])?;
-    let root = listed(alloc, &last_waits, &[], &[], (0, 0))?;
-    assert_eq!(rt; root.as_slice(), [(0, 0, 0)].as_slice());
-    let last = listed(alloc, &last_waits, &[0, 1], &[(0, 2, 4)], (1, 1))?;
-    assert_eq!(rt; last.as_slice(), [(2, 2, 4)].as_slice());
+    build_table(alloc, &rows, pairs)
+}
+
+#[test]
+fn finds_the_windows_of_jobs_with_predecessors(rt: HostRuntime) {
+    let alloc = rt.alloc();
+    let root: Worked = (&[], None, (0, 0), 0, &[(0, 0, 0)]);
+    assert!(rt; finds(alloc, one_predecessor(alloc), root));
+    let last: Worked = (&[0, 1], Some((0, 2, 4)), (1, 1), 2, &[(2, 2, 4)]);
+    assert!(rt; finds(alloc, one_predecessor(alloc), last));
     // job 1, which waits, is not there before job 0 has finished
-    let one_waits = table_of(alloc, &rows, &[(0, 1)])?;
-    let second = listed(alloc, &one_waits, &[0], &[(0, 2, 4)], (0, 0))?;
-    assert_eq!(rt; second.as_slice(), [(2, 0, 0)].as_slice());
+    let second: Worked = (&[0], Some((0, 2, 4)), (0, 0), 1, &[(2, 0, 0)]);
+    assert!(rt; finds(alloc, waiting(alloc, &[(JobNo(0), JobNo(1))]), second));
     // once job 2 is there, so is job 1
-    let both_wait = table_of(alloc, &rows, &[(0, 1), (0, 2)])?;
-    let shared = listed(alloc, &both_wait, &[0], &[(0, 2, 4)], (2, 4))?;
-    assert_eq!(rt; shared.as_slice(), [(1, 2, 4)].as_slice());
-    Ok(())
+    let shared: Worked = (&[0], Some((0, 2, 4)), (2, 4), 1, &[(1, 2, 4)]);
+    let both = [(JobNo(0), JobNo(1)), (JobNo(0), JobNo(2))];
+    assert!(rt; finds(alloc, waiting(alloc, &both), shared));
 }
 
 // Whether the list takes the item.

@@ -1,6 +1,6 @@
 //! When a job may start next.
 
-ghost use Rattle.std.specs.Prelude.{◌≡◌, ◌<◌, length, max, min};
+ghost use Rattle.std.specs.Prelude.{◌≡◌, ◌<◌, length, min};
 ghost use Rattle.std.specs.Option.{option_map_or};
 ghost use Rattle.job_sets.specs.Subset.{is_member};
 ghost use Rattle.job_model.specs.Table.{predecessors};

@@ -2,106 +2,68 @@ ghost use Rattle.std.specs.Prelude.{◌≤◌};
 ghost use Rattle.job_model.specs.declared.limits.TheConstants.{MOST_CORES};
 
 use crate::{replay, write_schedule};
-use job_model::{Job, JobTable, Scenario};
+use job_model::{JobTable, Scenario};
+use small_tables::{NotATable, blocking, build_table, one_predecessor};
 use std::alloc::Global;
-use std::test::Fail;
 
-const LAST: u64 = u64::MAX;
-
-/// A job released at 0 or 1 that costs at most 3.
-fn job(task: u64, job: u64, priority: u64) -> Job {
-    Job {
-        task,
-        job,
-        rmin: 0,
-        rmax: 1,
-        cmin: 1,
-        cmax: 3,
-        deadline: 9,
-        priority,
-    }
-}
-
-/// The text of the schedule of two jobs with these releases and costs.
-fn text_of(
+// Whether this is the text of the schedule of the table with these releases and costs.
+fn writes(
     alloc: Global,
-    jobs: [Job; 2],
+    table: &JobTable,
     cores: u16,
-    releases_and_costs: [(u64, u64); 2],
-) -> Result<Vec<u8>, Fail>
+    values: &[(u64, u64)],
+    want: &str,
+) -> Option<bool>
     requires some_core { 1 ≤ cores }
     requires few_cores { cores ≤ MOST_CORES }
 {
-    let table = JobTable::from_rows(alloc, Vec::from_slice(alloc, &jobs)?)?;
-    let rows = Vec::from_slice(alloc, &releases_and_costs)?;
-    let Some(scenario) = Scenario::new(&table, rows) else {
-        return Err(Fail::new("the scenario does not fit"));
-    };
-    let schedule = replay(alloc, &table, cores, &scenario)?;
-    Ok(write_schedule(alloc, &table, &scenario, &schedule)?)
+    let scenario = Scenario::new(table, values.to_vec(alloc).ok()?)?;
+    let schedule = replay(alloc, table, cores, &scenario).ok()?;
+    let text = write_schedule(alloc, table, &scenario, &schedule).ok()?;
+    Some(text.as_slice() == want.as_bytes())
 }
 
-#[test]
-fn writes_rows_by_start_and_urgency(rt: HostRuntime) -> Result<(), Fail> {
-    let alloc = rt.alloc();
-
-    // The less urgent job blocks.
-    let text = text_of(alloc, [job(1, 1, 1), job(2, 1, 2)], 1, [(1, 2), (0, 3)])?;
-    assert_eq!(rt;
-        text.as_slice(),
-        b"Task ID,Job ID,Start,Finish,Core\n2,1,0,3,0\n1,1,3,5,0\n".as_slice()
-    );
-
-    // At one start and one priority the lower IDs come first.
-    let text = text_of(
-        alloc,
-        [job(LAST, LAST, 7), job(LAST, 9, 7)],
-        2,
-        [(1, 1), (1, 2)],
-    )?;
-    let want =
-        b"Task ID,Job ID,Start,Finish,Core\n18446744073709551615,9,1,3,0\n18446744073709551615,18446744073709551615,1,2,1\n";
-    assert_eq!(rt; text.as_slice(), want.as_slice());
-    Ok(())
-}
-
-/// A job released at 0 that costs from `cmin` to `cmax`.
-fn job_between(task: u64, priority: u64, cmin: u64, cmax: u64) -> Job {
-    Job {
-        task,
-        job: 1,
-        rmin: 0,
-        rmax: 0,
-        cmin,
-        cmax,
-        deadline: 10,
-        priority,
+// The same of what may be a table.
+fn writes_if_table(
+    alloc: Global,
+    table: Result<JobTable, NotATable>,
+    cores: u16,
+    values: &[(u64, u64)],
+    want: &str,
+) -> Option<bool>
+    requires some_core { 1 ≤ cores }
+    requires few_cores { cores ≤ MOST_CORES }
+{
+    match table {
+        Ok(table) => writes(alloc, &table, cores, values, want),
+        Err(_) => None,
     }
 }
 
 #[test]
-fn starts_a_job_when_its_predecessor_has_finished(rt: HostRuntime) -> Result<(), Fail> {
+fn writes_rows_by_start_and_urgency(rt: HostRuntime) {
     let alloc = rt.alloc();
-    let jobs = [
-        job_between(1, 1, 2, 4),
-        job_between(2, 2, 1, 1),
-        job_between(3, 3, 1, 2),
-    ];
-    let table = JobTable::from_rows(alloc, Vec::from_slice(alloc, &jobs)?)?;
-    let (Some(before), Some(after)) = (table.find(1, 1), table.find(3, 1)) else {
-        return Err(Fail::new("the table has these jobs"));
-    };
-    let Ok(table) = table.with_edges(alloc, &[(before, after)]) else {
-        return Err(Fail::new("one edge closes no cycle"));
-    };
-    let rows = Vec::from_slice(alloc, &[(0, 4), (0, 1), (0, 2)])?;
-    let Some(scenario) = Scenario::new(&table, rows) else {
-        return Err(Fail::new("the scenario does not fit"));
-    };
-    let schedule = replay(alloc, &table, 2, &scenario)?;
-    assert_eq!(rt;
-        write_schedule(alloc, &table, &scenario, &schedule)?.as_slice(),
-        b"Task ID,Job ID,Start,Finish,Core\n1,1,0,4,0\n2,1,0,1,1\n3,1,4,6,0\n".as_slice()
+
+    // The less urgent job blocks.
+    let text = "Task ID,Job ID,Start,Finish,Core\n2,1,0,3,0\n1,1,3,5,0\n";
+    let answer = writes_if_table(alloc, blocking(alloc), 1, &[(1, 2), (0, 3)], text);
+    assert_eq!(rt; answer, Some(true));
+
+    // At one start and one priority the lower IDs come first.
+    let last = u64::MAX;
+    let tied = build_table(
+        alloc,
+        &[[last, last, 0, 1, 1, 3, 9, 7], [last, 9, 0, 1, 1, 3, 9, 7]],
+        &[],
     );
-    Ok(())
+    let text =
+        "Task ID,Job ID,Start,Finish,Core\n18446744073709551615,9,1,3,0\n18446744073709551615,18446744073709551615,1,2,1\n";
+    let answer = writes_if_table(alloc, tied, 2, &[(1, 1), (1, 2)], text);
+    assert_eq!(rt; answer, Some(true));
+
+    // A job starts when its predecessor has finished.
+    let text = "Task ID,Job ID,Start,Finish,Core\n1,1,0,4,0\n2,1,0,1,1\n3,1,4,6,0\n";
+    let values = [(0, 4), (0, 1), (0, 2)];
+    let answer = writes_if_table(alloc, one_predecessor(alloc), 2, &values, text);
+    assert_eq!(rt; answer, Some(true));
 }

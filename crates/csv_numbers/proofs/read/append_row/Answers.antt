@@ -1,12 +1,10 @@
-use Rattle.std.proofs.Common.{◌≡◌, ◌++◌, ◌∷◌, ◌∙◌, [], List, ℕ, suc, length, take, drop, ap, arith, rules, add-one, append_assoc, append-nil, sym}
-use Rattle.std.proofs.lemmas.List.{length-take-le, take_all}
+use Rattle.std.proofs.Common.{◌≡◌, ◌++◌, ◌∷◌, ◌∙◌, [], List, ℕ, take, ap, arith, rules, add-one, append_assoc}
 use Rattle.std.proofs.lemmas.Slice.Zip.{all_zipped_more}
 use Rattle.std.specs.Result.{is_ok}
 use Rattle.std.specs.Prelude.{true}
 use Rattle.csv.specs.Records.{fields_of}
 use Rattle.csv_numbers.specs.Fields.{Spells, bare}
-use Rattle.csv_numbers.specs.Rows.{FirstBadField, Reads, Record}
-use Rattle.csv_numbers.proofs.RowLemmas.{RowSoFar, bad-field, field-none, field-take}
+use Rattle.csv_numbers.proofs.RowLemmas.{bad-field, field-none, field-take}
 use Rattle.csv_numbers.proofs.read.append_row.Goals as goal
 
 pub unreachable-requires : goal.unreachable-requires

@@ -1,8 +1,6 @@
-use Rattle.std.proofs.Common.{◌≡◌, [], length}
+use Rattle.std.proofs.Common.{[]}
 use Rattle.std.proofs.lemmas.Result.{err_from_is_err_and}
 use Rattle.csv.specs.Records.{fields_of}
-use Rattle.csv_numbers.specs.FlatRows.{flat_rows}
-use Rattle.csv_numbers.specs.Rows.{Rows}
 use Rattle.csv_numbers.specs.declared.fault.CsvFault.TheVariants as fault
 use Rattle.csv_numbers.proofs.RowLemmas.{rows-all, rows-bad, rows-begin, rows-more-read, rows-wide}
 use Rattle.csv_numbers.proofs.RowsAgree.{rows_agree}

@@ -1,8 +1,8 @@
-use Rattle.std.proofs.Common.{◌≡◌, [], map, take}
+use Rattle.std.proofs.Common.{◌≡◌, ◌++◌, map, take}
+use Rattle.std.specs.List.{join_with_byte}
 use Rattle.std.specs.Prelude.{decimal}
-use Rattle.csv.specs.Records.{fields_of, partial_of}
 use Rattle.csv_numbers.proofs.write.put_numbers.Given as goal
 
 -- the fields so far
-abbrev pub invariant-loop-number : goal.invariant-loop-number
-invariant-loop-number l = (fields_of l.entry ≡ map decimal (take l.number-index l.numbers)) × (partial_of l.entry ≡ [])
+abbrev pub invariant-loop-place : goal.invariant-loop-place
+invariant-loop-place l = l.text.items ≡ l.fn.text.items ++ join_with_byte 44 (map decimal (take l.place l.numbers))

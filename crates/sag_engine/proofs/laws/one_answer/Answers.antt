@@ -19,5 +19,15 @@ returns c = law.one_answer (record {
     one_scenario_fault = c.one_scenario_fault.ensures;
     scenarios_keep_rules = c.scenarios_keep_rules.ensures;
   };
+  certificates = record {
+    one_end = c.one_end.ensures;
+    one_text_fault = c.one_text_fault.ensures;
+    no_fault_of_readable = c.no_fault_of_readable.ensures;
+  };
+  conversions = record {
+    one_conversion = c.one_conversion.ensures;
+    one_text_fault = c.one_text_fault.ensures;
+    no_fault_of_readable = c.no_fault_of_readable.ensures;
+  };
   one_run = c.one_run.ensures;
 })

@@ -1,4 +1,8 @@
 use Rattle.sag_engine.specs.Promises.{texts}
+use Rattle.sag_engine.proofs.CheckLemmas.{yeses_by}
+use Rattle.sag_engine.proofs.ConvertLemmas.{conversions_by}
+use Rattle.sag_engine.proofs.ReportLemmas.{reports_by}
+use Rattle.sag_engine.proofs.GraphCertificate.{certificates_by}
 use Rattle.sag_engine.proofs.ReplayLemmas.{runs_by}
 use Rattle.sag_engine.proofs.RunLemmas.{answers_by, contents_by, fault_text_by, finished_by, later_by, none_on_read_fault_by, prefix_by, read_cause_by, tells_by, text_by, write_cause_by}
 use Rattle.sag_engine.proofs.run.sag_run.Goals as goal
@@ -10,6 +14,10 @@ returns g c =
     rw c.status_of.ensures (record {
       answer = answers_by words works;
       runs = runs_by c.one_command.ensures c.one_run.ensures c.starts_agree.ensures words works;
+      yes = yeses_by c.one_command.ensures words works;
+      reports = reports_by c.one_command.ensures c.responses_within_wcrt.ensures words works;
+      converts = conversions_by c.one_command.ensures c.converted_is_readable.ensures c.old_is_valid.ensures words works;
+      certificates = certificates_by c.one_command.ensures (record { valid = c.graph_is_valid.ensures; readable = c.graph_is_readable.ensures; short = c.graph_is_short.ensures }) words works;
       finished = finished_by words works;
       read_fault = read_cause_by words works;
       none_on_read_fault = none_on_read_fault_by words works;

@@ -1,6 +1,8 @@
 use Rattle.sag_engine.specs.Promises.{texts}
-use Rattle.sag_engine.proofs.CommandLemmas.{asked_cores}
+use Rattle.sag_engine.proofs.CommandLemmas.{asked_budget, asked_cores}
 use Rattle.sag_engine.proofs.run.work.Goals as goal
 
 pub run_command-requires : goal.run_command-requires
-run_command-requires g c = asked_cores (texts c.args.words.now) c.in-Ok.command c.in-Ok.ensures.read
+run_command-requires g c =
+    let words = texts c.args.words.now in
+    record { cores = asked_cores words c.in-Ok.command c.in-Ok.ensures.read; budget = asked_budget words c.in-Ok.command c.in-Ok.ensures.read }

@@ -1,8 +1,7 @@
-use Rattle.std.proofs.Common.{rules, ◌≡◌, ◌∙◌, ◌≤◌, ℕ, ap, sym, min, slice_set}
+use Rattle.std.proofs.Common.{rules, ◌≡◌, ◌∙◌, ◌≤◌, ℕ, min, slice_set}
 use Rattle.std.specs.Prelude.{slice_index}
 use Rattle.std.specs.Map.{keys_of}
 use Rattle.sag_time.specs.Interval.{Interval}
-use Rattle.start_windows.specs.Ends.{HeldEnds}
 use Rattle.sag_step.proofs.CutEnds.{begun-at, ended-at, ended-missing, listed-within}
 use Rattle.sag_step.proofs.ends.end_by.Goals as goal
 

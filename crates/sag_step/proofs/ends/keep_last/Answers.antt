@@ -1,5 +1,5 @@
 use Rattle.std.proofs.Common.{◌≡◌, ◌∙◌, ◌&&◌, ℕ, Bool, refl, sym, ap, filter, cond, false, true, List}
-use Rattle.job_sets.specs.Subset.{Subset, is_member, is_rising, with_number}
+use Rattle.job_sets.specs.Subset.{Subset, is_rising, with_number}
 use Rattle.job_sets.proofs.Filters.{filter-both, filter-same, is_rising-filter}
 use Rattle.sag_step.specs.State.{is_tracked}
 use Rattle.sag_step.specs.Next.{runs_past}

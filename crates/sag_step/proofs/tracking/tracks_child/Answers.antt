@@ -1,4 +1,4 @@
-use Rattle.std.proofs.Common.{◌≡◌, ◌∙◌, ℕ, List, true, false, filter, ap, sym, subst}
+use Rattle.std.proofs.Common.{◌∙◌, ℕ, List, true, false, filter, ap, sym}
 use Rattle.std.specs.Prelude.{nat_eq}
 use Rattle.std.specs.Map.{keys_of}
 use Rattle.std.specs.Cmp.Lexicographic.{pointwise}

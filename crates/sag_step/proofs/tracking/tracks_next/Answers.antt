@@ -1,9 +1,9 @@
-use Rattle.std.proofs.Common.{◌≡◌, ◌∷◌, ◌+◌, List, ℕ, drop, true, false, sym, ap, ◌∙◌, arith}
+use Rattle.std.proofs.Common.{◌≡◌, ◌∷◌, ◌+◌, List, ℕ, drop, sym, ap, ◌∙◌, arith}
 use Rattle.std.specs.Map.{keys_of}
 use Rattle.std.proofs.lemmas.Option.{slice_get_within}
 use Rattle.job_sets.specs.Subset.{with_number}
 use Rattle.sag_time.specs.Interval.{Interval}
-use Rattle.sag_step.specs.Tracks.{begins_below, lists_tracked}
+use Rattle.sag_step.specs.Tracks.{lists_tracked}
 use Rattle.lists.proofs.Elements.{drop_next}
 use Rattle.sag_step.proofs.TracksNext.{below_next, comes_first, new-later}
 use Rattle.sag_step.proofs.tracking.tracks_next.Goals as goal

@@ -1,9 +1,9 @@
-use Rattle.std.proofs.Common.{◌≡◌, ℕ, ◌<◌, ◌+◌, ◌∷◌, ◌++◌, [], List, map, take, get_or, true, refl, min, length, arith, ap, sym, subst, ◌∙◌, Some, None, ltb, rules}
+use Rattle.std.proofs.Common.{◌≡◌, ℕ, ◌<◌, ◌+◌, ◌∷◌, ◌++◌, [], List, map, take, get_or, true, refl, min, length, arith, ap, sym, subst, ◌∙◌, Some, None}
 use Rattle.std.specs.Option.{option_map_or}
 use Rattle.std.proofs.lemmas.List.{get_or_read}
-use Rattle.std.proofs.lemmas.List.Sorted.{IsPartitionPoint-from_clause, IsPartitionedBy-ltb}
 use Rattle.start_windows.specs.declared.eligibility.Prospect.{Prospect}
 use Rattle.start_windows.specs.Window.{is_candidate, latest_ready}
+use Rattle.start_windows.specs.Eligible.{IsFront}
 use Rattle.start_windows.specs.Prospects.{AreProspects, Collected, prospect_of}
 use Rattle.start_windows.proofs.Collecting.{Collected-none, Collected-other, Collected-found, Collected-same, beyond_same, AreProspects-push}
 use Rattle.start_windows.proofs.ByRelease.{Collected-start, front_dispatched, no_candidates, order_more, walk_stop}
@@ -16,10 +16,8 @@ loop-place-init c =
     let set = c.args.set.now.members in
     let ends = c.args.ends.now.items in
     let order = c.args.order.now in
-    let start = c.partition_point-start.result in
-    let parted = IsPartitionedBy-ltb (λ (e : ℕ × ℕ). e.0) order c.args.from c.requires.order.rising in
-    let point = IsPartitionPoint-from_clause (λ (e : ℕ × ℕ). ltb e.0 c.args.from) _ _ c.partition_point-start.ensures.partitioned parted (λ a r q k. search rules) in
-    let out = no_candidates table set (map (λ e. e.1) (take start order)) (front_dispatched table set order c.args.from start c.requires.order c.requires.from c.partition_point-start.ensures.bound (λ k d lt. point.0 k d (omega arith) lt)) in
+    let start = c.from-place.result in
+    let out = no_candidates table set (map (λ e. e.1) (take start order)) (front_dispatched table set order start c.requires.own (subst (IsFront table set) (sym c.from-place.ensures) c.requires.front)) in
     let walked : Collected table set ends c.args.first (map (λ e. e.1) (take start order)) [] None =
     Collected-start table set ends c.args.first [] [] None (map (λ e. e.1) (take start order)) (Collected-none table set ends c.args.first) out in
     let empty : c.clear.new.self.items ≡ [] = c.clear.ensures.items in

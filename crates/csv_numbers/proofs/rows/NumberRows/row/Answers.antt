@@ -1,4 +1,4 @@
-use Rattle.std.proofs.Common.{◌≡◌, ◌≤◌, ◌<◌, ◌+◌, ◌*◌, ◌-◌, ◌∙◌, [], List, ℕ, ap, arith, drop, get_or, length, sym, take}
+use Rattle.std.proofs.Common.{◌≡◌, ◌≤◌, ◌+◌, ◌*◌, ◌-◌, ◌∙◌, [], List, ℕ, ap, arith, drop, get_or, length, sym, take}
 use Rattle.csv_numbers.proofs.FlatLemmas.{below-count, flat_rows-at, row-within}
 use Rattle.csv_numbers.proofs.rows.NumberRows.row.Goals as goal
 

@@ -21,7 +21,7 @@ invariant_of-self-else-is_err c =
     let new = c.begin_at-begun.new.place in
     let fine : is_err c.begin_at-begun.result ≡ false = cc in (
       c.self.invariant.0,
-      fit-of-view w.table.now w.cores w.states.items w.passed c.args.self.now c.self.view_is (states_of c.args.states.items) c.requires.fit,
+      fit-of-view w.table.now w.cores w.states.items w.passed c.args.self.now c.self.view_is c.args.states.items c.requires.fit,
       settled-stands w.table.now w.cores (states_of c.args.states.items) 0 new.at new.windows.items new.place _
           (by-ok c.begin_at-begun.result fine (rw c.deref.ensures.value at c.begin_at-begun.ensures.own))
           (by-ok c.begin_at-begun.result fine (rw c.deref.ensures.value at c.begin_at-begun.ensures.left))

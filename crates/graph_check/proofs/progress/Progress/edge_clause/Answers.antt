@@ -40,14 +40,14 @@ is_covered_by-requires-clause-fit c =
     let a = c.args in
     let h = held_progress c.self.inside in
     let there = rw c.deref.ensures.value at c.in-Some-get.ensures.lookup in
-    (source-at h.table h.cores c.self.inside.states.items a.to c.in-Some-get.state.now c.self.invariant.0 there.3.0 there.1).fit
+    (source-at h.table h.cores c.self.inside.states.items a.to c.in-Some-get.entry.now c.self.invariant.0 there.3.0 there.1).fit
 
 pub returns-then-not-is_covered_by-clause-clause : goal.returns-then-not-is_covered_by-clause-clause
 returns-then-not-is_covered_by-clause-clause c =
     let a = c.args in
     let h = held_progress c.self.inside in
     let there = rw c.deref.ensures.value at c.in-Some-get.ensures.lookup in
-    edge-k8 h a.from a.job a.est a.lst a.to c.in-Some.turn c.in-Some.ensures.turn (sym c.is_choice.ensures ∙ c.if-not-is_choice.false) (sym c.has_window.ensures ∙ c.if-not-has_window.false) c.in-Some-get.state.now.state (state-at c.self.inside.states.items a.to c.in-Some-get.state.now there.3.0 there.1) (walk-says h a.from a.job a.est a.lst a.to c.in-Some.turn c.in-Some.ensures.turn (sym c.is_choice.ensures ∙ c.if-not-is_choice.false) (sym c.has_window.ensures ∙ c.if-not-has_window.false) c.in-Some-get.state.now.state c.is_covered_by.result c.is_covered_by.ensures.covers ∙ c.if-not-is_covered_by.true)
+    edge-k8 h a.from a.job a.est a.lst a.to c.in-Some.turn c.in-Some.ensures.turn (sym c.is_choice.ensures ∙ c.if-not-is_choice.false) (sym c.has_window.ensures ∙ c.if-not-has_window.false) c.in-Some-get.entry.now.state.state (state-at c.self.inside.states.items a.to c.in-Some-get.entry.now there.3.0 there.1) (walk-says h a.from a.job a.est a.lst a.to c.in-Some.turn c.in-Some.ensures.turn (sym c.is_choice.ensures ∙ c.if-not-is_choice.false) (sym c.has_window.ensures ∙ c.if-not-has_window.false) c.in-Some-get.entry.now.state.state c.is_covered_by.result c.is_covered_by.ensures.covers ∙ c.if-not-is_covered_by.true)
     ∙ ap (λ (k : HeldProgress). first_broken (edge_checks k.progress.states (edge_offer k) a.from a.job a.est a.lst a.to)) c.self.view_is
 
 pub returns-clause-clause : goal.returns-clause-clause
@@ -55,7 +55,7 @@ returns-clause-clause c =
     let a = c.args in
     let h = held_progress c.self.inside in
     let there = rw c.deref.ensures.value at c.in-Some-get.ensures.lookup in
-    edge-passes h a.from a.job a.est a.lst a.to c.in-Some.turn c.in-Some.ensures.turn (sym c.is_choice.ensures ∙ c.if-not-is_choice.false) (sym c.has_window.ensures ∙ c.if-not-has_window.false) c.in-Some-get.state.now.state (state-at c.self.inside.states.items a.to c.in-Some-get.state.now there.3.0 there.1) (walk-says h a.from a.job a.est a.lst a.to c.in-Some.turn c.in-Some.ensures.turn (sym c.is_choice.ensures ∙ c.if-not-is_choice.false) (sym c.has_window.ensures ∙ c.if-not-has_window.false) c.in-Some-get.state.now.state c.is_covered_by.result c.is_covered_by.ensures.covers ∙ c.if-not-is_covered_by.false)
+    edge-passes h a.from a.job a.est a.lst a.to c.in-Some.turn c.in-Some.ensures.turn (sym c.is_choice.ensures ∙ c.if-not-is_choice.false) (sym c.has_window.ensures ∙ c.if-not-has_window.false) c.in-Some-get.entry.now.state.state (state-at c.self.inside.states.items a.to c.in-Some-get.entry.now there.3.0 there.1) (walk-says h a.from a.job a.est a.lst a.to c.in-Some.turn c.in-Some.ensures.turn (sym c.is_choice.ensures ∙ c.if-not-is_choice.false) (sym c.has_window.ensures ∙ c.if-not-has_window.false) c.in-Some-get.entry.now.state.state c.is_covered_by.result c.is_covered_by.ensures.covers ∙ c.if-not-is_covered_by.false)
     ∙ ap (λ (k : HeldProgress). first_broken (edge_checks k.progress.states (edge_offer k) a.from a.job a.est a.lst a.to)) c.self.view_is
 
 pub returns-clause-left : goal.returns-clause-left

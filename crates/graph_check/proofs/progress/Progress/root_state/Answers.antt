@@ -43,9 +43,10 @@ returns-clause-state c =
 pub returns-clause-fit : goal.returns-clause-fit
 returns-clause-fit c =
     let old = c.args.self.now in
-    (is-root old.table old.cores old.progress c.args.pairs.now c.in-Some.state (rw (← c.in-Some.is) (finds-same old.table c.table-table.result.now old.cores c.cores-cores.result c.in-Ok.set.members _ c.args.pairs.now [] [] c.in-Ok-state_of_line.found
+    let fit = (is-root old.table old.cores old.progress c.args.pairs.now c.in-Some.state (rw (← c.in-Some.is) (finds-same old.table c.table-table.result.now old.cores c.cores-cores.result c.in-Ok.set.members _ c.args.pairs.now [] [] c.in-Ok-state_of_line.found
     (c.table-table.ensures ∙ ap (λ (h : HeldProgress). h.table) c.self.view_is) (c.cores-cores.ensures.cores ∙ ap (λ (h : HeldProgress). h.cores) c.self.view_is)
-    c.in-Ok.ensures.empty.1 c.in-Ok-state_of_line.ensures))).fit
+    c.in-Ok.ensures.empty.1 c.in-Ok-state_of_line.ensures))).fit in
+    record { fit = fit; front = c.fronts_are_handed_down.ensures.start old.table c.in-Some.state.state.set.members }
 
 pub returns-clause-passes : goal.returns-clause-passes
 returns-clause-passes c =

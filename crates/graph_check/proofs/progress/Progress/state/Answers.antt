@@ -8,7 +8,7 @@ returns-in-Ok-clause-comes c =
     let a = c.args in
     let old = a.self.now in
     comes-whole old due.State (line.State a.parent a.job a.pairs.now a.ends.now a.last.now) c.requires.due c.add_state.result c.add_state.new.self _ c.in-Ok.ensures.passes c.add_state.ensures.added
-    c.add_state.ensures.memory (after-state old.table old.progress a.parent a.job a.pairs.now a.ends.now a.last.now c.in-Ok.state.state c.in-Ok.ensures.state c.in-Ok.ensures.parent)
+    c.add_state.ensures.memory (after-state old.table old.progress a.parent a.job a.pairs.now a.ends.now a.last.now c.in-Ok.state.state.state c.in-Ok.ensures.state c.in-Ok.ensures.parent)
 
 pub returns-in-Err-clause-comes : goal.returns-in-Err-clause-comes
 returns-in-Err-clause-comes c =

@@ -1,5 +1,5 @@
-use Rattle.std.proofs.Common.{◌≡◌, ◌∙◌, ◌<◌, ℕ, ap, sym, subst, true, arith, All}
-use Rattle.std.specs.Prelude.{nat_eq, nat_le, IsTrue}
+use Rattle.std.proofs.Common.{◌≡◌, ◌∙◌, ap, sym, true, arith}
+use Rattle.std.specs.Prelude.{nat_eq, nat_le}
 use Rattle.std.specs.List.{list_all}
 use Rattle.std.specs.Map.{keys_of}
 use Rattle.std.specs.Cmp.Lexicographic.{pointwise, as_long, bytes_decides}

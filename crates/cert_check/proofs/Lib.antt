@@ -1,0 +1,3 @@
+mod JobLines
+mod LineTakings
+mod OneEnds

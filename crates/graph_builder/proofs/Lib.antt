@@ -1,0 +1,9 @@
+pub mod FitLemmas
+pub mod FillLemmas
+pub mod SpanLemmas
+pub mod StandLemmas
+pub mod LevelLaws
+pub mod TextLemmas
+pub mod StateLineLemmas
+pub mod LineLemmas
+pub mod WritableLemmas

@@ -1,0 +1,5 @@
+pub mod Fit
+pub mod Filling
+pub mod Standing
+pub mod Writing
+pub mod Laws

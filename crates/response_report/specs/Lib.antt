@@ -1,0 +1,3 @@
+pub mod ReportRows
+pub mod ReportText
+pub mod Laws

@@ -1,6 +1,0 @@
-use Rattle.std.proofs.Common.{length}
-use Rattle.job_model.specs.Neighbours.{JoinJobs}
-use Rattle.start_windows.proofs.tests.edges_of.Given as goal
-
-abbrev pub invariant-loop-before : goal.invariant-loop-before
-invariant-loop-before l = JoinJobs (length l.table.jobs) l.rows.items
