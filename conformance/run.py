@@ -1,10 +1,11 @@
 #!/usr/bin/env python3
 """Runs the built program on stored calls, and on the calls that the documents show, and compares byte for byte.
 
-usage: run.py PROGRAM [CALLS ..]
+usage: run.py PROGRAM [CALLS .. | shown]
 
 Without CALLS all *.jsonl of this folder are run, every row of the tables in docs/COMMANDS.md has to be shown by a call, and
-the calls of README.md, docs/ and examples/ are run too. README.md of this folder says what a stored call has.
+the calls of README.md, docs/, examples/ and man/ are run too; with `shown` these alone. README.md of this folder says what a stored
+call has.
 """
 
 import hashlib
@@ -20,6 +21,7 @@ from typing import NamedTuple, Optional
 HERE = pathlib.Path(__file__).resolve().parent
 TOP = HERE.parent
 COMMANDS = TOP / "docs" / "COMMANDS.md"
+MANUAL = TOP / "man" / "sag.1"
 
 SECONDS = 60
 SHOWN = 200
@@ -180,10 +182,12 @@ def steps(block):
 
 
 def run_block(program, block, folder):
-    """What differs where the calls of a block are run: `cd`, `cat`, `echo $?` and `sag` alone."""
+    """What differs where the calls of a block are run: `cd`, `cat`, `echo $?` and `sag` alone. A file behind `>` is there already,
+    with the output that the call gives."""
     status = 0
     for call, printed in steps(block):
-        words = call.split()
+        words, _, kept = call.partition(" > ")
+        words = words.split()
         want = "".join(line + "\n" for line in printed)
         if words[0] == "cd":
             folder, got = TOP / words[1], ""
@@ -193,7 +197,10 @@ def run_block(program, block, folder):
             got = f"{status}\n"
         else:
             done = subprocess.run([program, *words[1:]], cwd=folder, capture_output=True, timeout=SECONDS, check=False)
-            status, got = done.returncode, (done.stdout + done.stderr).decode("utf-8")
+            status, told = done.returncode, done.stdout
+            if kept and (folder / kept).is_file() and told == (folder / kept).read_bytes():
+                told = b""
+            got = (told + done.stderr).decode("utf-8")
         if got != want:
             yield f"$ {call}\n    wanted {want!r}\n    got    {got!r}"
 
@@ -204,6 +211,9 @@ def run_shown(program, tally):
     for path in documents:
         for block in blocks(path.read_text(encoding="utf-8")):
             tally.note(f"{path.relative_to(TOP)}: {block[0]}", list(run_block(program, block, path.parent)))
+    for text in re.findall(r"^\.Bd -literal[^\n]*\n(\$ .*?)^\.Ed$", MANUAL.read_text(encoding="utf-8"), re.M | re.S):
+        block = text.splitlines()
+        tally.note(f"man/sag.1: {block[0]}", list(run_block(program, block, TOP / "examples" / "analyse")))
     for row in table_rows((TOP / "examples" / "README.md").read_text(encoding="utf-8"), "Stories"):
         folder, call, prints = (re.sub(r"^\[?`?|`?(\]\(.*\))?$", "", cell) for cell in row[:3])
         done = subprocess.run([program, *call.split()[1:]], cwd=TOP / "examples" / folder, capture_output=True,
@@ -212,12 +222,14 @@ def run_shown(program, tally):
         tally.note(f"examples/{folder}: {call}", differences(Answer(0, want, b""), Answer(done.returncode, done.stdout, done.stderr), None))
 
 
-def main(program, paths):
+def main(program, words):
     program = str(pathlib.Path(program).resolve())
     tally = Tally()
-    shown = run_stored(program, paths or sorted(HERE.glob("*.jsonl")), tally)
-    if not paths:
-        check_rows(shown, tally)
+    if words != ["shown"]:
+        shown = run_stored(program, [pathlib.Path(word) for word in words] or sorted(HERE.glob("*.jsonl")), tally)
+        if not words:
+            check_rows(shown, tally)
+    if words in ([], ["shown"]):
         run_shown(program, tally)
     print(f"conformance: {tally.passed} passed, {tally.failed} failed")
     return 1 if tally.failed else 0
@@ -226,4 +238,4 @@ def main(program, paths):
 if __name__ == "__main__":
     if len(sys.argv) < 2:
         sys.exit(__doc__)
-    sys.exit(main(sys.argv[1], [pathlib.Path(name) for name in sys.argv[2:]]))
+    sys.exit(main(sys.argv[1], sys.argv[2:]))

@@ -1,11 +1,13 @@
 #!/usr/bin/env python3
-"""Checks that what the documents name is there: paths and links, crates, functions, clauses, definitions.
+"""Checks that what the documents name is there: paths and links, crates, functions, clauses, definitions; and that the commands
+are the same everywhere.
 
 usage: documents.py
 
-Read are README.md, CONTRIBUTING.md, docs/, and the README of each folder. A path is a word with a slash, a file name or a link; a
-name is a word between backticks that looks like one of the sources (a_b, AaBb, name()). It passes where the tree has it: a file
-or folder, from the top or below crates/, or a word of a source file. The last line is 'documents: N passed, M failed'.
+Read are README.md, CONTRIBUTING.md, CHANGELOG.md, docs/, and the README of each folder. The commands of conformance/usage.txt are
+those of docs/COMMANDS.md and of man/sag.1, and VERSION is the first release in CHANGELOG.md. A path is a word with a slash, a file
+name or a link; a name is a word between backticks that looks like one of the sources (a_b, AaBb, name()). It passes where the tree
+has it: a file or folder, from the top or below crates/, or a word of a source file. The last line is 'documents: N passed, M failed'.
 """
 
 import pathlib
@@ -25,7 +27,8 @@ NAME = re.compile(r"^[a-z][a-z0-9]*(?:_[a-z0-9]+)+(?:\(\))?$|^(?:[A-Z][a-z0-9]+)
 def documents():
     yield TOP / "README.md"
     yield TOP / "CONTRIBUTING.md"
-    for folder in ("docs", "examples", "conformance", "bench"):
+    yield TOP / "CHANGELOG.md"
+    for folder in ("docs", "examples", "conformance", "bench", "tools"):
         yield from sorted((TOP / folder).glob("**/*.md"))
 
 
@@ -72,9 +75,26 @@ def missing(path, words, paths):
             yield word
 
 
+def found(name, pattern):
+    """What the pattern finds in a file, line by line."""
+    return re.findall(pattern, (TOP / name).read_text(encoding="utf-8"), re.M)
+
+
+def uneven():
+    """Files that name other commands than the usage does, or another release."""
+    commands = sorted(found("conformance/usage.txt", r"^(?:usage:| {6}) sag (\w+)"))
+    for name, pattern in ("docs/COMMANDS.md", r"^    sag (\w+) [A-Z]"), ("man/sag.1", r"^\.Ss sag (\w+)$"):
+        if sorted(found(name, pattern)) != commands:
+            yield f"{name} has other commands than conformance/usage.txt"
+    if found("CHANGELOG.md", r"^## ([\d.]+)")[:1] != found("VERSION", r"^([\d.]+)$"):
+        yield "CHANGELOG.md begins with another release than VERSION has"
+
+
 def main():
     words, paths = words_of_sources()
-    passed = failed = 0
+    lines = list(uneven())
+    print("".join(line + "\n" for line in lines), end="")
+    passed, failed = 0, len(lines)
     for path in documents():
         lacking = sorted(set(missing(path, words, paths)))
         if lacking:

@@ -4,6 +4,10 @@
 #[cfg(test)]
 mod analyse_calls;
 #[cfg(test)]
+mod attain_calls;
+#[cfg(test)]
+mod audit_calls;
+#[cfg(test)]
 mod calls;
 #[cfg(test)]
 mod check_calls;
@@ -15,3 +19,9 @@ mod fault_calls;
 mod replay_calls;
 #[cfg(test)]
 mod report_calls;
+#[cfg(test)]
+mod selftest_calls;
+#[cfg(test)]
+mod sure_calls;
+#[cfg(test)]
+mod unroll_calls;

@@ -5,14 +5,12 @@
 --     first_printed, next_printed     the head line and level 0 were printed; one level more was
 --     halts_ ..                       the printing stopped
 --     ends_done, ends_spent           the printing ended
-use Rattle.std.proofs.Common.{◌≡◌, ◌∙◌, ◌⊎◌, ◌∷◌, ◌++◌, ◌+◌, ◌-◌, ◌<◌, ◌≤◌, ℕ, inl, inr, List, [], Option, None, Some, Result, Ok, Err, ap, arith, length, refl, sym, subst}
+use Rattle.std.proofs.Common.{◌≡◌, ◌∙◌, ◌++◌, ◌+◌, ◌-◌, ◌<◌, ◌≤◌, ℕ, inl, inr, List, [], Option, None, Some, Result, Ok, Err, ap, arith, length, refl, sym, subst}
 use Rattle.std.specs.Prelude.{◌↔◌, Bool, IfOk, IsTrue, false, find, nat_lt, true}
 use Rattle.std.proofs.lemmas.Bool.{false≢true}
 use Rattle.sag_edge.specs.Contents.{Contents}
-use Rattle.sag_edge.specs.Reading.{SeenFiles}
 use Rattle.sag_edge.specs.Writing.{SeenSink}
 use Rattle.sag_texts.specs.declared.fault.FileKind.{FileKind}
-use Rattle.sag_texts.specs.declared.fault.FileKind.TheVariants as kinds
 use Rattle.sag_texts.specs.declared.fault.Fault.{Fault}
 use Rattle.job_model.specs.Table.{Table, IsTable}
 use Rattle.sag_graph.specs.Budget.{Spending, exceeds, spendings_at, spent}
@@ -29,7 +27,7 @@ use Rattle.sag_engine.specs.declared.halt.Halt.TheVariants.{Memory}
 use Rattle.sag_engine.specs.Plan.{ComesTo, ReadsNext}
 use Rattle.sag_engine.specs.Plan.Plan.{Ends}
 use Rattle.sag_engine.specs.Inputs.{table_plan}
-use Rattle.sag_engine.specs.Work.{IsAmongFiles, Reply, Work, precedence_file}
+use Rattle.sag_engine.specs.Work.{IsAmongFiles, Reply, Work}
 use Rattle.sag_engine.specs.Work.Work.{Analyses}
 use Rattle.sag_engine.specs.Analyse.{analyse_files, analyse_plan, analysis_reply, level_text, lines_text, text_up_to}
 use Rattle.sag_engine.specs.Commands.{Replies}

@@ -3,7 +3,7 @@
 --     certificate_ended, _wrong, _halt       a certificate that was handed on as it was read
 --     AcceptedCertificate                    a certificate that was read as a whole, and what it came to
 --     certificate_reads, certificate_one     its plan reads its file, and comes to one value
-use Rattle.std.proofs.Common.{◌≡◌, ◌∙◌, ◌≤◌, ℕ, Bool, true, false, cond, inl, inr, List, [], length, Option, Some, Result, Ok, Err, IfOk, nat_lt, ap, arith, refl, subst, sym}
+use Rattle.std.proofs.Common.{◌≡◌, ◌∙◌, ◌≤◌, ℕ, Bool, true, false, cond, List, [], length, Option, Result, Ok, Err, IfOk, nat_lt, ap, arith, refl, subst, sym}
 use Rattle.sag_edge.specs.Contents.{Contents}
 use Rattle.sag_edge.specs.Reading.{SeenFiles}
 use Rattle.job_model.specs.Table.{Table}

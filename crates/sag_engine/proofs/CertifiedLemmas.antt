@@ -1,6 +1,6 @@
 -- A command that checks a certificate: what its files come to, which it reads, that its work has one reply, and what a certificate
 -- that it accepts means.
-use Rattle.std.proofs.Common.{◌≡◌, ◌∙◌, ◌⊎◌, ◌∷◌, ℕ, inl, inr, List, [], Option, Some, Result, Ok, Err, ap, refl, sym, subst}
+use Rattle.std.proofs.Common.{◌≡◌, ◌∙◌, ◌∷◌, ℕ, inl, inr, List, [], Option, Some, Result, Ok, Err, ap, sym, subst}
 use Rattle.sag_edge.specs.Contents.{Contents}
 use Rattle.sag_edge.specs.Reading.{SeenFiles}
 use Rattle.sag_edge.specs.Writing.{GrowsBy, SeenSink}

@@ -1,5 +1,5 @@
 -- The command `check`: its yes is that of a certificate that it accepted.
-use Rattle.std.proofs.Common.{ℕ, List, Option, Result, Ok, Err}
+use Rattle.std.proofs.Common.{ℕ, List, Result, Ok, Err}
 use Rattle.sag_edge.specs.Reading.{SeenFiles}
 use Rattle.sag_edge.specs.Writing.{SeenSink}
 use Rattle.sag_words.specs.declared.command.Command.TheVariants as commands

@@ -1,5 +1,5 @@
 -- The command `convert`: how its reading follows its plan, which file it reads, that it has one reply, and what it means.
-use Rattle.std.proofs.Common.{◌≡◌, ◌∙◌, ◌≤◌, ℕ, inl, inr, List, [], length, Option, Some, Result, Ok, Err, Vec, ap, refl, subst, sym}
+use Rattle.std.proofs.Common.{◌≡◌, ◌∙◌, ℕ, inl, inr, List, [], Option, Some, Result, Ok, Err, Vec, ap, refl, subst, sym}
 use Rattle.std.specs.declared.alloc.Global.{Global}
 use Rattle.sag_edge.specs.Contents.{Contents}
 use Rattle.sag_edge.specs.Reading.{SeenFiles}

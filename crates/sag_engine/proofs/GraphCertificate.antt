@@ -5,7 +5,6 @@ use Rattle.sag_edge.specs.Reading.{SeenFiles}
 use Rattle.sag_edge.specs.Writing.{GrowsBy, SeenSink}
 use Rattle.sag_words.specs.declared.command.Command.TheVariants as commands
 use Rattle.sag_words.specs.Laws.{OneCommand}
-use Rattle.sag_words.specs.Words.{WordsOf}
 use Rattle.job_model.specs.declared.limits.TheConstants.{MOST_CORES}
 use Rattle.job_model.specs.Table.{Table}
 use Rattle.sag_graph.specs.declared.TheConstants.{MOST_BUDGET}
@@ -18,7 +17,7 @@ use Rattle.sag_engine.specs.declared.status.Status.TheVariants as statuses
 use Rattle.sag_engine.specs.Analyse.{PrintsCertificate, PrintsCertificates, analyse_plan, analysis_reply}
 use Rattle.sag_engine.specs.Commands.{Replies}
 use Rattle.sag_engine.specs.RunEnds.{EndsWords, Runs, Works, conclusion_status, run_status}
-use Rattle.sag_engine.specs.Work.{Reply, Work}
+use Rattle.sag_engine.specs.Work.{Reply}
 use Rattle.sag_engine.proofs.AnalyseLemmas.{accepted_analysis}
 use Rattle.sag_engine.proofs.CommandLemmas.{asked_budget, asked_cores}
 

@@ -1,5 +1,5 @@
 -- What is known of files that were accepted.
-use Rattle.std.proofs.Common.{◌≡◌, ℕ, List, [], Option, None, Some, Ok, ap, sym}
+use Rattle.std.proofs.Common.{◌≡◌, ℕ, List, [], Option, None, Some, Ok, ap}
 use Rattle.sag_edge.specs.Contents.{Contents}
 use Rattle.job_model.specs.Table.{Table, IsTable}
 use Rattle.job_model.specs.Scenario.{Fits}

@@ -15,6 +15,10 @@ mod CheckLemmas
 mod ReportLemmas
 mod ConvertLemmas
 mod ReplayLemmas
+mod UnrollLemmas
+mod AuditLemmas
+mod SelftestLemmas
+mod AttainLemmas
 mod CommandLemmas
 mod GraphCertificate
 mod RunLemmas

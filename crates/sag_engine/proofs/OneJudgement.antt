@@ -79,7 +79,7 @@ module _ (laws : FileLaws) where
 
     scenario_refused : (one two : Fault) → ScenarioRefused table bytes one → ScenarioRefused table bytes two → one ≡ two
     scenario_refused one two (e, told, other, first) (e', told', other', first') =
-        told ∙ ap (told_fault table) (laws.one_scenario_fault table bytes e e' is_table other other' first first') ∙ sym told'
+        told ∙ ap (told_fault kinds.Scenario table) (laws.one_scenario_fault table bytes e e' is_table other other' first first') ∙ sym told'
 
     pub scenario_same : (v w : Result (List (ℕ × ℕ)) Fault) → ScenarioJudged table bytes v → ScenarioJudged table bytes w → v ≡ w
     scenario_same (Ok s) (Ok t) (text, fits) (text', fits') = ap Ok (laws.one_scenario table bytes s t text text')

@@ -132,3 +132,7 @@ runs_memory p t {o = o} h = record {
   tells = inl (tells_none o);
   end = inl (takes_none o.taken);
 }
+
+-- memory ran out before anything of the reply was printed
+pub prints_memory : (reply : Reply) (a : SeenSink) → Prints reply a a (Err Memory)
+prints_memory reply a = prints_halt (writes_none a reply.bytes)

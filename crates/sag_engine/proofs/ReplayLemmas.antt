@@ -1,5 +1,5 @@
 -- The command `replay`: what its files come to, which it reads, the run that it prints, and that there is one.
-use Rattle.std.proofs.Common.{◌≡◌, ◌∙◌, ◌⊎◌, ◌∷◌, ℕ, inl, inr, List, [], Option, Some, Result, Ok, Err, refl, sym, subst}
+use Rattle.std.proofs.Common.{◌≡◌, ◌∙◌, ◌∷◌, ℕ, inl, inr, List, [], Option, Some, Result, Ok, Err, refl, sym, subst}
 use Rattle.sag_edge.specs.Contents.{Contents}
 use Rattle.sag_edge.specs.Reading.{SeenFiles}
 use Rattle.sag_edge.specs.Writing.{SeenSink}
@@ -19,7 +19,7 @@ use Rattle.sag_engine.specs.Plan.Plan.{Ends}
 use Rattle.sag_engine.specs.Inputs.{scenario_plan, table_plan}
 use Rattle.sag_engine.specs.Work.{IsAmongFiles, Reply, Work, precedence_file}
 use Rattle.sag_engine.specs.Work.Work.{Replays}
-use Rattle.sag_engine.specs.Replay.{IsRunReply, PrintsRun, PrintsRuns, replay_files, replay_plan}
+use Rattle.sag_engine.specs.Replay.{PrintsRun, PrintsRuns, replay_files, replay_plan}
 use Rattle.sag_engine.specs.Commands.{Replies}
 use Rattle.sag_engine.specs.RunEnds.{EndsWords, Gives, Runs, Works, run_status}
 use Rattle.sag_engine.proofs.FileLemmas.{among_first, among_more, reads_split, scenario_reads, table_reads}

@@ -1,5 +1,5 @@
 -- The command `report`: the intervals of its jobs, and what its report means.
-use Rattle.std.proofs.Common.{◌≡◌, ◌∙◌, ◌<◌, ◌≤◌, ◌+◌, ◌∷◌, [], ℕ, zero, suc, List, Bool, Option, Some, Result, Ok, Err, ap, arith, length, map, min, refl, sym, take}
+use Rattle.std.proofs.Common.{◌≡◌, ◌∙◌, ◌<◌, ◌∷◌, [], ℕ, zero, suc, List, Bool, Option, Some, Result, Ok, Err, ap, arith, length, min, refl, take}
 use Rattle.std.specs.Prelude.{slice_get}
 use Rattle.sag_edge.specs.Reading.{SeenFiles}
 use Rattle.sag_edge.specs.Writing.{SeenSink}

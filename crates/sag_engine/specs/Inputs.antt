@@ -3,7 +3,7 @@
 --     JobsJudged bytes end                  the table of a job file, or that rule
 --     PrecedenceRefused table bytes fault   the first rule that a precedence file breaks
 --     PrecedenceJudged table bytes end      the table with the edges of a precedence file, or that rule
---     told_fault table e                    what is told of a fault of a scenario file
+--     told_fault kind table e               what is told of a fault of a file with a row for each job
 --     ScenarioRefused table bytes fault     the first rule that a scenario file breaks
 --     ScenarioJudged table bytes end        the scenario of a scenario file, or that rule
 --     jobs_plan, precedence_plan, scenario_plan   such a file is read, and judged
@@ -28,6 +28,7 @@ use Rattle.side_csv.specs.PrecedenceText.{PrecedenceText}
 use Rattle.side_csv.specs.PrecedenceFaults.{FirstPrecedenceFault}
 use Rattle.side_csv.specs.ScenarioText.{ScenarioText}
 use Rattle.side_csv.specs.ScenarioFaults.{FirstScenarioFault}
+use Rattle.sag_texts.specs.declared.fault.FileKind.{FileKind}
 use Rattle.sag_texts.specs.declared.fault.FileKind.TheVariants as kinds
 use Rattle.sag_texts.specs.declared.fault.Fault.{Fault}
 use Rattle.sag_texts.specs.declared.fault.Fault.TheVariants as faults
@@ -61,10 +62,10 @@ PrecedenceJudged table bytes (Ok whole) =
     (rows : List (ℕ × ℕ)) × PrecedenceText table bytes rows × KeepEdgeRules rows × (whole ≡ with_edges table rows) × IsTable whole
 PrecedenceJudged table bytes (Err fault) = PrecedenceRefused table bytes fault
 
--- what is told of a fault of a scenario file: a job without a row is named by its IDs
-abbrev pub told_fault : Table → SideFault → Fault
-told_fault table (side.Missing j) = faults.NoRow kinds.Scenario (job_at table j).task (job_at table j).job
-told_fault table other = faults.Side kinds.Scenario other
+-- what is told of a fault of a file with a row for each job: a job without a row is named by its IDs
+abbrev pub told_fault : FileKind → Table → SideFault → Fault
+told_fault kind table (side.Missing j) = faults.NoRow kind (job_at table j).task (job_at table j).job
+told_fault kind table other = faults.Side kind other
 
 -- a job without a row is one of the table
 abbrev pub IsOfTable : Table → SideFault → Type 0
@@ -73,7 +74,7 @@ IsOfTable table other = ⊤
 
 -- The first rule that a scenario file breaks. Want of memory is no refusal.
 abbrev pub ScenarioRefused : Table → List ℕ → Fault → Type 0
-ScenarioRefused table bytes fault = (e : SideFault) × (fault ≡ told_fault table e) × (e ≢ side.Memory) × FirstScenarioFault table bytes e
+ScenarioRefused table bytes fault = (e : SideFault) × (fault ≡ told_fault kinds.Scenario table e) × (e ≢ side.Memory) × FirstScenarioFault table bytes e
 
 -- the scenario of a scenario file, or the first rule that the file breaks
 abbrev pub ScenarioJudged : Table → List ℕ → Result (List (ℕ × ℕ)) Fault → Type 0

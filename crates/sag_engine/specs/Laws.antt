@@ -1,21 +1,34 @@
 -- Laws of the top call: the words and the files fix the answer.
 --     OneAnswer     over known files the words come to one outcome
+--     WordsSuffice  words that ask for no command, or for a selftest, come to one outcome whatever files there are
 --     SeenCall      what is seen of a call
 --     IsAnswered    it ended with an answer, as its clauses say
 --     HaveOneEnd    two calls have one status, one output and one text on the errors
 --     CallsAgree    two calls that ended with an answer do, where the words and the bytes of the files are the same
-use Rattle.std.specs.Prelude.{ℕ, ◌≡◌, List, Some}
+use Rattle.std.specs.Prelude.{ℕ, ◌≡◌, List, Option, Some}
 use Rattle.sag_edge.specs.Contents.{Contents}
 use Rattle.sag_edge.specs.Reading.{SeenFiles}
 use Rattle.sag_edge.specs.Writing.{SeenSink, GrowsBy}
 use Rattle.sag_engine.specs.declared.status.Status.{Status}
 use Rattle.sag_engine.specs.Promises as promise
 use Rattle.sag_engine.specs.Promises.{Answers, ComesOut, Explains, Outcome, Told}
+use Rattle.sag_engine.specs.Promises.Outcome.{NoCommand, Output}
+use Rattle.sag_engine.specs.RunEnds.{AsksNothing}
+use Rattle.sag_engine.specs.Selftest.{reply_of_selftest}
+use Rattle.sag_words.specs.declared.command.Command.TheVariants as commands
+use Rattle.sag_words.specs.Words.{WordsOf}
 
 -- Over known files the words come to one outcome: to no command, to one refusal, or to one reply.
 abbrev pub OneAnswer : Type 0
 OneAnswer =
     (words : List (List ℕ)) (contents : Contents) (one other : Outcome) → ComesOut words (Some contents) one → ComesOut words (Some contents) other → one ≡ other
+
+-- Words that ask for no command come to that, and words that ask for a selftest to its summary, whatever files there are, and
+-- whether or not they are known.
+pub record WordsSuffice : Type 0 where
+  pub nothing : (words : List (List ℕ)) (m : Option Contents) (outcome : Outcome) → AsksNothing words → ComesOut words m outcome → outcome ≡ NoCommand
+  pub selftest : (words : List (List ℕ)) (number cores : ℕ) (m : Option Contents) (outcome : Outcome) → WordsOf words (commands.Selftest number cores)
+      → ComesOut words m outcome → outcome ≡ Output (reply_of_selftest number cores)
 
 -- the files before a call, its sinks before and after it, and its status
 pub record SeenCall : Type 0 where

@@ -9,6 +9,10 @@ pub mod Check
 pub mod Replay
 pub mod Report
 pub mod Convert
+pub mod Unroll
+pub mod Audit
+pub mod Selftest
+pub mod Attain
 pub mod Commands
 pub mod RunEnds
 pub mod Promises

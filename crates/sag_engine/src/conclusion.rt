@@ -5,7 +5,7 @@
 pub enum Conclusion {
     /// All was done.
     Done,
-    /// The certificate is readable and not valid.
+    /// The certificate is readable and not valid, or the recorded run is not legal.
     No,
     /// The graph exceeds the budget: at this level, with so many states and edges.
     Spent { level: u64, states: u64, edges: u64 },

@@ -1,6 +1,6 @@
 //! Why work stops before its end.
 
-ghost use Rattle.std.specs.Prelude.{◌≡◌};
+ghost use Rattle.std.specs.Prelude.{◌≡◌, Err};
 ghost use Rattle.sag_texts.specs.FaultTexts.{HasText};
 
 use sag_texts::{Fault, FileKind};
@@ -54,4 +54,12 @@ pub enum Halt {
     Write,
     /// Memory ran out.
     Memory,
+}
+
+/// Stops at a fault that has a text.
+pub(crate) fn refused<T>(fault: Fault) -> Result<T, Halt>
+    requires { HasText fault }
+    ensures { result ≡ Err (Halt.Refused fault) }
+{
+    Err(Halt::Refused(Refusal::new(fault)))
 }

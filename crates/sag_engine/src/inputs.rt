@@ -1,28 +1,19 @@
 //! The files of the subject, read and judged.
 
-ghost use Rattle.std.specs.Prelude.{◌≡◌, ℕ, Err, IfOk, List, [], length};
+ghost use Rattle.std.specs.Prelude.{◌≡◌, ℕ, IfOk, List, [], length};
 ghost use Rattle.job_model.specs.Neighbours.{JoinJobs};
-ghost use Rattle.sag_texts.specs.FaultTexts.{HasText};
 ghost use Rattle.sag_engine.specs.Inputs.{IsOfTable, JobsJudged, PrecedenceJudged, ScenarioJudged, jobs_plan, precedence_plan, scenario_plan, table_plan, told_fault};
 ghost use Rattle.sag_engine.specs.PrecedenceSteps.{EdgesJoined, EdgesNamed};
 ghost use Rattle.sag_engine.specs.RunEnds.{Follows, Judged};
 
 use crate::fetch::{MOST_FILE_BYTES, fetch};
-use crate::halt::{Halt, Refusal};
+use crate::halt::{Halt, Refusal, refused};
 use job_csv::{CsvFault, read_jobs};
 use job_model::{EdgeFault, JobNo, JobTable, Scenario, TableFault};
 use sag_edge::{FileName, Files};
 use sag_texts::{Fault, FileKind};
 use side_csv::{SideFault, read_edges, read_scenario};
 use std::alloc::Global;
-
-// Stops at a fault that has a text.
-fn refused<T>(fault: Fault) -> Result<T, Halt>
-    requires { HasText fault }
-    ensures { result ≡ Err (Halt.Refused fault) }
-{
-    Err(Halt::Refused(Refusal::new(fault)))
-}
 
 // The table of a job file.
 fn table_of(alloc: Global, bytes: &[u8]) -> Result<JobTable, Halt>
@@ -74,17 +65,17 @@ fn with_precedence(alloc: Global, table: JobTable, bytes: &[u8]) -> Result<JobTa
     joined(alloc, table, &edges)
 }
 
-// What is told of a fault of a scenario file: a job without a row is named by its IDs.
-fn told(table: &JobTable, fault: SideFault) -> Refusal
+/// What is told of a fault of a file with a row for each job: a job without a row is named by its IDs.
+pub(crate) fn told(file: FileKind, table: &JobTable, fault: SideFault) -> Refusal
     requires { IsOfTable table.now fault }
-    ensures { result ≡ told_fault table.now fault }
+    ensures { result ≡ told_fault file table.now fault }
 {
     match fault {
         SideFault::Missing(no) => {
             let job = table.job(no);
-            Refusal::new(Fault::NoRow(FileKind::Scenario, job.task, job.job))
+            Refusal::new(Fault::NoRow(file, job.task, job.job))
         }
-        fault => Refusal::new(Fault::Side(FileKind::Scenario, fault)),
+        fault => Refusal::new(Fault::Side(file, fault)),
     }
 }
 
@@ -95,7 +86,7 @@ fn scenario_of(alloc: Global, bytes: &[u8], table: &JobTable) -> Result<Scenario
     match read_scenario(alloc, bytes, table) {
         Ok(scenario) => Ok(scenario),
         Err(SideFault::Memory) => Err(Halt::Memory),
-        Err(fault) => Err(Halt::Refused(told(table, fault))),
+        Err(fault) => Err(Halt::Refused(told(FileKind::Scenario, table, fault))),
     }
 }
 

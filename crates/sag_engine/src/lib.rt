@@ -3,10 +3,14 @@
 
 mod certificate;
 mod command_analyse;
+mod command_attain;
+mod command_audit;
 mod command_check;
 mod command_convert;
 mod command_replay;
 mod command_report;
+mod command_selftest;
+mod command_unroll;
 mod conclusion;
 mod explain;
 mod fetch;
@@ -16,9 +20,7 @@ mod laws;
 mod outputs;
 mod run;
 mod status;
-#[cfg(test)]
-mod tests;
 
-pub use laws::{calls_agree, one_answer};
+pub use laws::{calls_agree, one_answer, words_suffice};
 pub use run::sag_run;
 pub use status::Status;

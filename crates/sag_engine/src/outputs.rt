@@ -1,6 +1,7 @@
 //! Writing what a command prints.
 
 ghost use Rattle.std.specs.Prelude.{◌≡◌, ℕ, List, [], IfOk, IsTrue};
+ghost use Rattle.sag_engine.specs.declared.conclusion.Conclusion.TheVariants.{Spent};
 ghost use Rattle.sag_engine.specs.RunEnds.{Writes, Prints};
 
 use crate::conclusion::Conclusion;
@@ -26,6 +27,27 @@ pub(crate) fn close<O: Sink>(out: &mut O, conclusion: Conclusion) -> Result<Conc
         Ok(()) => Ok(conclusion),
         Err(_) => Err(Halt::Write),
     }
+}
+
+/// Ends the output of work that the budget ended: at this level, with so many states and edges.
+pub(crate) fn close_spent<O: Sink>(
+    out: &mut O,
+    level: u16,
+    states: u64,
+    edges: u64,
+) -> Result<Conclusion, Halt>
+    ensures writes { Writes [] (O.seen out.old) (O.seen out.new) result }
+    ensures conclusion { IfOk result (λ told. (told ≡ Spent level states edges) × IsTrue (O.seen out.new).finished) }
+{
+    let level = u64::from(level);
+    close(
+        out,
+        Conclusion::Spent {
+            level,
+            states,
+            edges,
+        },
+    )
 }
 
 /// Prints the whole output of a command.

@@ -2,27 +2,36 @@
 
 ghost use Rattle.std.specs.Prelude.{◌≡◌, ◌≤◌, ℕ, List, [], IsTrue};
 ghost use Rattle.sag_edge.specs.Writing.{GrowsBy};
-ghost use Rattle.sag_engine.specs.Commands.{HasBudget, HasCores, command_plan};
+ghost use Rattle.sag_engine.specs.Commands.{HasBudget, HasCores, HasHorizon, command_plan};
 ghost use Rattle.sag_engine.specs.Analyse.{PrintsCertificates};
 ghost use Rattle.sag_engine.specs.Check.{PrintsYeses};
 ghost use Rattle.sag_engine.specs.Convert.{PrintsConversions};
 ghost use Rattle.sag_engine.specs.Replay.{PrintsRuns};
 ghost use Rattle.sag_engine.specs.Report.{PrintsReports};
+ghost use Rattle.sag_engine.specs.Attain.{PrintsEnds};
+ghost use Rattle.sag_engine.specs.Audit.{PrintsLegals};
+ghost use Rattle.sag_engine.specs.Unroll.{PrintsJobFiles};
 ghost use Rattle.sag_engine.specs.RunEnds.{Runs, Works};
 ghost use Rattle.sag_engine.specs.Promises.{Answers, ExplainsFault, HasReadCause, Explains, HasWriteCause, IsDone, KeepsPrefix, KeepsTelling, texts};
 
 use crate::command_analyse::run_analyse;
+use crate::command_attain::run_attain;
+use crate::command_audit::run_audit;
 use crate::command_check::run_check;
 use crate::command_convert::run_convert;
 use crate::command_replay::run_replay;
 use crate::command_report::run_report;
+use crate::command_selftest::run_selftest;
+use crate::command_unroll::run_unroll;
 use crate::conclusion::Conclusion;
 use crate::explain::explain;
 use crate::halt::Halt;
 use crate::status::{Status, status_of};
 use cert_convert::converted_is_readable;
 use graph_check::old_is_valid;
+use graph_memory::job_lines_tell_spans;
 use graph_valid::{graph_is_readable, graph_is_short, graph_is_valid};
+use one_core::ends_are_attained;
 use response_report::responses_within_wcrt;
 use run_meaning::{one_run, starts_agree};
 use sag_edge::{Files, Sink};
@@ -38,6 +47,7 @@ fn run_command<F: Files, O: Sink>(
 ) -> Result<Conclusion, Halt>
     requires cores { HasCores command }
     requires budget { HasBudget command }
+    requires horizon { HasHorizon command }
     ensures { Runs (command_plan command) (F.seen files.old) (F.seen files.new)
         (O.seen out.old) (O.seen out.new) result }
 {
@@ -68,6 +78,26 @@ fn run_command<F: Files, O: Sink>(
             tasks,
         } => run_report(alloc, files, out, jobs, cert, prec, cores, tasks),
         Command::Convert { cert } => run_convert(alloc, files, out, cert),
+        Command::Unroll {
+            tasks,
+            horizon,
+            policy,
+        } => run_unroll(alloc, files, out, tasks, horizon, policy),
+        Command::Audit {
+            jobs,
+            scenario,
+            run,
+            prec,
+            cores,
+        } => run_audit(alloc, files, out, jobs, scenario, run, prec, cores),
+        Command::Selftest { number, cores } => run_selftest(alloc, out, number, cores),
+        Command::Attain {
+            jobs,
+            task,
+            job,
+            end,
+            budget,
+        } => run_attain(alloc, files, out, jobs, task, job, end, budget),
     }
 }
 
@@ -92,7 +122,8 @@ fn work<F: Files, O: Sink>(
 ///
 /// The first word is the program's name, the second the command. The status is that of the first of these that applies:
 /// the words are refused; a file cannot be read, is too long or breaks a rule, in the order in which the command reads its
-/// files; `out` cannot be written; a certificate is not valid, or a graph exceeds its budget. A fault of `err` changes no
+/// files; `out` cannot be written; a certificate is not valid, a recorded run is
+/// not legal, or a graph exceeds its budget. A fault of `err` changes no
 /// status. Want of memory can come at any place.
 pub fn sag_run<F: Files, O: Sink, E: Sink>(
     alloc: Global,
@@ -106,6 +137,9 @@ pub fn sag_run<F: Files, O: Sink, E: Sink>(
     ensures yes { PrintsYeses (texts words.now) (F.seen files.old) (O.seen out.old) (O.seen out.new) result }
     ensures reports { PrintsReports (texts words.now) (F.seen files.old) (O.seen out.old) (O.seen out.new) result }
     ensures converts { PrintsConversions (texts words.now) (F.seen files.old) (O.seen out.old) (O.seen out.new) result }
+    ensures job_files { PrintsJobFiles (texts words.now) (F.seen files.old) (O.seen out.old) (O.seen out.new) result }
+    ensures legals { PrintsLegals (texts words.now) (F.seen files.old) (O.seen out.old) (O.seen out.new) result }
+    ensures ends { PrintsEnds (texts words.now) (F.seen files.old) (O.seen out.old) (O.seen out.new) result }
     ensures certificates { PrintsCertificates (texts words.now) (F.seen files.old) (O.seen out.old) (O.seen out.new) result }
     ensures finished { IsDone result → IsTrue (O.seen out.new).finished }
     ensures read_fault { HasReadCause (texts words.now) (F.seen files.old) (F.seen files.new) result }
@@ -134,6 +168,8 @@ pub fn sag_run<F: Files, O: Sink, E: Sink>(
     graph_is_valid();
     graph_is_readable();
     graph_is_short();
+    ends_are_attained();
+    job_lines_tell_spans();
     let end = work(alloc, words, files, out);
     explain(err, &end);
     status_of(&end)

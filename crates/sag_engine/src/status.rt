@@ -12,7 +12,7 @@ use crate::halt::Halt;
 pub enum Status {
     /// The work was done, and its output is finished.
     Ok,
-    /// The certificate is readable and not valid.
+    /// The certificate is readable and not valid, or the recorded run is not legal.
     No,
     /// The words ask for no command.
     Usage,

@@ -2,7 +2,7 @@
 
 ghost use Rattle.std.specs.Prelude.{◌≡◌, ◌+◌, ◌<◌, ◌↔◌, IfOk, IfSome, IsSome, IsTrue, OnOk, Some, false, length, nat_le};
 ghost use Rattle.std.specs.Cmp.Lexicographic.{pointwise};
-ghost use Rattle.job_sets.specs.Subset.{is_member, with_number};
+ghost use Rattle.job_sets.specs.Subset.{is_member, is_within, with_number};
 ghost use Rattle.sag_time.specs.Interval.{touches};
 ghost use Rattle.sag_time.specs.Sorted.{is_sorted};
 ghost use Rattle.sag_step.specs.declared.TheConstants.{MOST_STEP_TIME, MOST_TIME};
@@ -61,6 +61,18 @@ fn begins_near(low: &Avail, high: &Avail) -> bool
         .iter()
         .zip(high)
         .all(|(from, to)| from.saturating_sub(1) <= *to)
+}
+
+// Whether the set has all members of the other. Many states have no last jobs, and then no word is looked at.
+#[tactic(auto, using(crate::proofs::Sets::none_within))]
+fn has_all(set: &JobSet, others: &JobSet) -> bool
+    requires { others.now.size ≡ set.now.size }
+    ensures { result ≡ is_within others.now.members set.now.members }
+{
+    if others.count() == 0 {
+        return true;
+    }
+    others.within(set)
 }
 
 impl State {
@@ -230,6 +242,9 @@ impl State {
         ensures size { IsTrue result → self.now.state.set.size ≡ other.now.state.set.size }
         ensures low { IsTrue result → length self.now.state.low ≡ length other.now.state.low }
         ensures high { IsTrue result → length self.now.state.high ≡ length other.now.state.high }
+        ensures like { self.now.state.set.size ≡ other.now.state.set.size
+            → length self.now.state.low ≡ length other.now.state.low
+            → length self.now.state.high ≡ length other.now.state.high → IsTrue result }
     {
         let size = self.set.size() == other.set.size();
         let low = self.low.len() == other.low.len();
@@ -382,7 +397,7 @@ impl State {
             && self.low.below(&other.low)
             && other.high.below(&self.high)
             && cover_ends(&self.ends, &other.ends)
-            && self.last.within(&other.last)
+            && has_all(&other.last, &self.last)
     }
 
     /// It becomes the least state that covers both.

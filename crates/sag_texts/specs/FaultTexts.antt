@@ -12,6 +12,7 @@
 --   table_fault_text  why the rows of the job file are no job table
 --   edge_fault_text   why the rows of the precedence file are no edges of a job table
 --   side_fault_text   why a file beside the job file is refused
+--   task_fault_text   why tasks are refused, or the jobs that they make
 --   fault_text        the text of a fault
 --   has_text          every fault has a text, but a job without a row, which is told by its IDs
 --   HasText           the same as a fact
@@ -26,9 +27,11 @@ use Rattle.job_model.specs.declared.fault.EdgeFault.{EdgeFault}
 use Rattle.job_model.specs.declared.fault.EdgeFault.TheVariants as edge
 use Rattle.side_csv.specs.declared.fault.SideFault.{SideFault}
 use Rattle.side_csv.specs.declared.fault.SideFault.TheVariants as side
+use Rattle.task_unroll.specs.declared.fault.TaskFault.{TaskFault}
+use Rattle.task_unroll.specs.declared.fault.TaskFault.TheVariants as task
 use Rattle.sag_texts.specs.declared.usage.TheConstants.{USAGE}
 use Rattle.sag_texts.specs.declared.fault.FileKind.{FileKind}
-use Rattle.sag_texts.specs.declared.fault.FileKind.TheVariants.{Jobs, Scenario, Precedence, Certificate}
+use Rattle.sag_texts.specs.declared.fault.FileKind.TheVariants.{Jobs, Scenario, Precedence, Certificate, Run, Tasks}
 use Rattle.sag_texts.specs.declared.fault.Fault.{Fault}
 use Rattle.sag_texts.specs.declared.fault.Fault.TheVariants as fault
 
@@ -42,6 +45,8 @@ file_word Jobs = codes "jobs"
 file_word Scenario = codes "scenario"
 file_word Precedence = codes "precedence"
 file_word Certificate = codes "certificate"
+file_word Run = codes "run"
+file_word Tasks = codes "tasks"
 
 -- why a file is refused
 unfoldable pub refusal : FileKind → List (List ℕ) → List ℕ
@@ -105,6 +110,18 @@ side_fault_text file (side.Twice row earlier) = repeat_refusal file row earlier
 side_fault_text file (side.Outside row column) = field_refusal file row column (codes " is outside")
 side_fault_text file side.Memory = no_memory
 
+-- why tasks are refused, or the jobs that they make
+unfoldable pub task_fault_text : TaskFault → List ℕ
+task_fault_text (task.Csv why) = csv_fault_text Tasks why
+task_fault_text (task.OverLimit row column) = field_refusal Tasks row column (codes " is above the limit")
+task_fault_text (task.ZeroPeriod row) = row_refusal Tasks row (codes " column 2 is 0" ∷ [])
+task_fault_text (task.SpanReversed row) = row_refusal Tasks row (codes " column 5 is above the next" ∷ [])
+task_fault_text (task.ZeroCost row) = row_refusal Tasks row (codes " column 5 is 0" ∷ [])
+task_fault_text (task.Twice row earlier) = repeat_refusal Tasks row earlier
+task_fault_text (task.Late row) = row_refusal Tasks row (codes " releases too late" ∷ [])
+task_fault_text task.TooMany = refusal Tasks (codes " too many jobs" ∷ [])
+task_fault_text task.Memory = no_memory
+
 -- the text of a fault
 unfoldable pub fault_text : Fault → List ℕ
 fault_text fault.Usage = usage_text
@@ -115,6 +132,8 @@ fault_text (fault.Edge why) = edge_fault_text why
 fault_text (fault.Side file why) = side_fault_text file why
 fault_text (fault.NoRow file task job) = refusal file (codes " has no row for job " ∷ decimal task ∷ codes " " ∷ decimal job ∷ [])
 fault_text (fault.Text line byte) = refusal Certificate (codes " line " ∷ decimal line ∷ codes " byte " ∷ decimal byte ∷ [])
+fault_text (fault.NoJob task job) = line (codes "refused job " ∷ decimal task ∷ codes " " ∷ decimal job ∷ codes " is not in the table" ∷ [])
+fault_text (fault.Tasks why) = task_fault_text why
 fault_text (fault.CannotRead file) = line (codes "cannot read " ∷ file_word file ∷ [])
 fault_text fault.CannotWrite = line (codes "cannot write" ∷ [])
 fault_text fault.NoMemory = no_memory

@@ -3,6 +3,7 @@
 use csv_numbers::CsvFault;
 use job_model::{EdgeFault, TableFault};
 use side_csv::SideFault;
+use task_unroll::TaskFault;
 
 /// A file of the command line, by what it holds.
 #[derive(Clone, Copy, PartialEq, Eq, Debug)]
@@ -11,6 +12,8 @@ pub enum FileKind {
     Scenario,
     Precedence,
     Certificate,
+    Run,
+    Tasks,
 }
 
 /// Why there is no answer. Rows are counted from 1, after the heading, and columns from 1.
@@ -33,6 +36,10 @@ pub enum Fault {
     /// The certificate is not in the grammar: this is the first byte with which its bytes begin none, by its line and its
     /// number in that line, both from 1.
     Text { line: u64, byte: u64 },
+    /// No job of the table has these IDs: (task ID, job ID).
+    NoJob(u64, u64),
+    /// The tasks of the tasks file are refused, or the jobs that they make.
+    Tasks(TaskFault),
     /// Reading the file failed.
     CannotRead(FileKind),
     /// Writing the answer failed.

@@ -1,7 +1,7 @@
 //! The line of each fault.
 
 ghost use Rattle.sag_edge.specs.Writing.{Puts};
-ghost use Rattle.sag_texts.specs.FaultTexts.{HasText, csv_fault_text, edge_fault_text, fault_text, no_memory, side_fault_text, spent_text, table_fault_text};
+ghost use Rattle.sag_texts.specs.FaultTexts.{HasText, csv_fault_text, edge_fault_text, fault_text, no_memory, side_fault_text, spent_text, table_fault_text, task_fault_text};
 
 use crate::piece::Piece::{File, Number, Words};
 use crate::piece::write_line;
@@ -12,6 +12,7 @@ use csv_numbers::CsvFault;
 use job_model::{EdgeFault, TableFault};
 use sag_edge::{Failed, Sink};
 use side_csv::SideFault;
+use task_unroll::TaskFault;
 
 // Tells that memory ran out.
 #[tactic(auto, unfolding(crate::specs::FaultTexts::no_memory))]
@@ -107,6 +108,29 @@ fn write_side_fault<S: Sink>(sink: &mut S, file: FileKind, why: &SideFault) -> R
     }
 }
 
+// Tells why tasks are refused, or the jobs that they make.
+#[tactic(auto, unfolding(crate::specs::FaultTexts::task_fault_text))]
+fn write_task_fault<S: Sink>(sink: &mut S, why: &TaskFault) -> Result<(), Failed>
+    ensures { Puts (S.seen sink.old) (S.seen sink.new) (task_fault_text why.now) result }
+{
+    let file = FileKind::Tasks;
+    match why {
+        TaskFault::Csv(why) => write_csv_fault(sink, file, why),
+        TaskFault::OverLimit(row, column) => {
+            refuse_field(sink, file, *row, *column, " is above the limit")
+        }
+        TaskFault::ZeroPeriod(row) => refuse_row(sink, file, *row, &[Words(" column 2 is 0")]),
+        TaskFault::SpanReversed(row) => {
+            refuse_row(sink, file, *row, &[Words(" column 5 is above the next")])
+        }
+        TaskFault::ZeroCost(row) => refuse_row(sink, file, *row, &[Words(" column 5 is 0")]),
+        TaskFault::Twice(row, earlier) => refuse_repeat(sink, file, *row, *earlier),
+        TaskFault::Late(row) => refuse_row(sink, file, *row, &[Words(" releases too late")]),
+        TaskFault::TooMany => refuse(sink, file, &[Words(" too many jobs")]),
+        TaskFault::Memory => write_no_memory(sink),
+    }
+}
+
 /// Writes the line of a fault. It takes no memory.
 ///
 /// A `SideFault::Missing` has the number of a job, which no text names: give `Fault::NoRow` with the job's IDs.
@@ -135,6 +159,12 @@ pub fn write_fault<S: Sink>(sink: &mut S, fault: &Fault) -> Result<(), Failed>
             let place = [Words(" line "), line, Words(" byte "), byte];
             refuse(sink, FileKind::Certificate, &place)
         }
+        Fault::NoJob(task, job) => {
+            let (task, job) = (Number(*task), Number(*job));
+            let rest = Words(" is not in the table");
+            write_line(sink, &[Words("refused job "), task, Words(" "), job, rest])
+        }
+        Fault::Tasks(why) => write_task_fault(sink, why),
         Fault::CannotRead(file) => write_line(sink, &[Words("cannot read "), File(*file)]),
         Fault::CannotWrite => write_line(sink, &[Words("cannot write")]),
         Fault::NoMemory => write_no_memory(sink),

@@ -28,6 +28,8 @@ impl FileKind {
             FileKind::Scenario => "scenario",
             FileKind::Precedence => "precedence",
             FileKind::Certificate => "certificate",
+            FileKind::Run => "run",
+            FileKind::Tasks => "tasks",
         }
     }
 }

@@ -1,6 +1,6 @@
 ghost use Rattle.sag_texts.specs.FaultTexts.{HasText};
 
-use crate::FileKind::{Jobs, Precedence, Scenario};
+use crate::FileKind::{Jobs, Precedence, Run, Scenario, Tasks};
 use crate::{Fault, USAGE, write_fault, write_spent};
 use csv_numbers::CsvFault;
 use job_model::{EdgeFault, TableFault};
@@ -9,6 +9,7 @@ use side_csv::SideFault;
 use std::alloc::Global;
 use std::process::Abort;
 use std::test::Fail;
+use task_unroll::TaskFault;
 
 /// The fault is told by this line, to a sink that takes three bytes at a time.
 fn is_told(rt: &impl Abort, alloc: Global, line: &str, fault: Fault) -> Result<(), Fail>
@@ -31,7 +32,10 @@ fn tells_faults(rt: HostRuntime) -> Result<(), Fail> {
     is_told(&rt, a, no_row, Fault::NoRow(Scenario, 1, u64::MAX))?;
     let text = Fault::Text { line: 16, byte: 1 };
     is_told(&rt, a, "refused certificate line 16 byte 1", text)?;
+    let no_job = "refused job 1 18446744073709551615 is not in the table";
+    is_told(&rt, a, no_job, Fault::NoJob(1, u64::MAX))?;
     is_told(&rt, a, "cannot read jobs", Fault::CannotRead(Jobs))?;
+    is_told(&rt, a, "cannot read run", Fault::CannotRead(Run))?;
     is_told(&rt, a, "cannot write", Fault::CannotWrite)?;
     is_told(&rt, a, "no memory", Fault::NoMemory)
 }
@@ -111,6 +115,44 @@ fn tells_side_faults(rt: HostRuntime) -> Result<(), Fail> {
         a,
         "refused scenario row 1 column 3 is outside",
         outside,
+    )
+}
+
+#[test]
+fn tells_task_faults(rt: HostRuntime) -> Result<(), Fail> {
+    let csv = TaskFault::Csv(CsvFault::Width(1, 6));
+    is_told(
+        &rt,
+        rt.alloc(),
+        "refused tasks row 1 has 6 fields",
+        Fault::Tasks(csv),
+    )?;
+    for (line, why) in [
+        (
+            "refused tasks row 1 column 7 is above the limit",
+            TaskFault::OverLimit(1, 7),
+        ),
+        (
+            "refused tasks row 2 column 2 is 0",
+            TaskFault::ZeroPeriod(2),
+        ),
+        (
+            "refused tasks row 1 column 5 is above the next",
+            TaskFault::SpanReversed(1),
+        ),
+        ("refused tasks row 3 column 5 is 0", TaskFault::ZeroCost(3)),
+        ("refused tasks row 2 repeats row 1", TaskFault::Twice(2, 1)),
+        ("refused tasks row 4 releases too late", TaskFault::Late(4)),
+        ("refused tasks too many jobs", TaskFault::TooMany),
+        ("no memory", TaskFault::Memory),
+    ] {
+        is_told(&rt, rt.alloc(), line, Fault::Tasks(why))?;
+    }
+    is_told(
+        &rt,
+        rt.alloc(),
+        "cannot read tasks",
+        Fault::CannotRead(Tasks),
     )
 }
 

@@ -11,8 +11,12 @@ pub const USAGE: &str = "\
 usage: sag analyse JOBS [--prec FILE] [--cores N] [--budget N]
        sag check JOBS CERT [--prec FILE] [--cores N]
        sag replay JOBS SCENARIO [--prec FILE] [--cores N]
+       sag attain JOBS TASK JOB best|worst [--budget N]
        sag report JOBS CERT [--prec FILE] [--cores N] [--tasks]
+       sag selftest NUMBER [--cores N]
        sag convert CERT
+       sag audit JOBS SCENARIO RUN [--prec FILE] [--cores N]
+       sag unroll TASKS HORIZON POLICY
 ";
 
 /// Writes the usage.

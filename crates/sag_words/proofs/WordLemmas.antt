@@ -7,13 +7,19 @@ use Rattle.clap.specs.Words.{App, Text, first_of, first_value, matches_of, rows_
 use Rattle.clap.specs.declared.parser.matches.Found.{Found}
 use Rattle.sag_words.specs.Apps.{IsInGrammar, value_at}
 use Rattle.sag_words.specs.Analyse.{analyse_app}
+use Rattle.sag_words.specs.Attain.{attain_app}
+use Rattle.sag_words.specs.Audit.{audit_app}
 use Rattle.sag_words.specs.Check.{check_app}
 use Rattle.sag_words.specs.Convert.{convert_app}
 use Rattle.sag_words.specs.Replay.{replay_app}
 use Rattle.sag_words.specs.Report.{report_app}
+use Rattle.sag_words.specs.Selftest.{selftest_app}
+use Rattle.sag_words.specs.Unroll.{unroll_app}
 use Rattle.sag_words.specs.Words.{Asks, HasValues, name_of}
+use Rattle.job_model.specs.declared.interval_end.End.{End}
+use Rattle.task_unroll.specs.declared.task.Policy.{Policy}
 use Rattle.sag_words.specs.declared.command.Command.{Command}
-use Rattle.sag_words.specs.declared.command.Command.TheVariants.{Analyse, Check, Replay, Report, Convert}
+use Rattle.sag_words.specs.declared.command.Command.TheVariants.{Analyse, Check, Replay, Attain, Report, Selftest, Convert, Audit, Unroll}
 
 -- what a getter reads is the value of the argument
 pub value_read : (app : App) (words : List Text) (found : Found) (id : Text) (read : Option (Bor Text))
@@ -53,6 +59,14 @@ unfolding Asks
 replay_refused rest none (Replay jobs scenario prec cores) asks = none jobs scenario prec cores asks.1 asks.2
 replay_refused rest none other asks = names_differ (codes "replay") (name_of other) refl asks.0
 
+-- nor do words that give no `attain`
+pub attain_refused : (rest : List Text)
+    → ((jobs : Text) (task job : ℕ) (end : End) (budget : ℕ) → IsInGrammar attain_app rest → HasValues (value_at attain_app rest) (Attain jobs task job end budget) → ⊥)
+    → (command : Command) → Asks (codes "attain") rest command → ⊥
+unfolding Asks
+attain_refused rest none (Attain jobs task job end budget) asks = none jobs task job end budget asks.1 asks.2
+attain_refused rest none other asks = names_differ (codes "attain") (name_of other) refl asks.0
+
 -- nor do words that give no `report`
 pub report_refused : (rest : List Text)
     → ((jobs cert : Text) (prec : Option Text) (cores : ℕ) (tasks : Bool) → IsInGrammar report_app rest → HasValues (value_at report_app rest) (Report jobs cert prec cores tasks) → ⊥)
@@ -60,6 +74,14 @@ pub report_refused : (rest : List Text)
 unfolding Asks
 report_refused rest none (Report jobs cert prec cores tasks) asks = none jobs cert prec cores tasks asks.1 asks.2
 report_refused rest none other asks = names_differ (codes "report") (name_of other) refl asks.0
+
+-- nor do words that give no `selftest`
+pub selftest_refused : (rest : List Text)
+    → ((number cores : ℕ) → IsInGrammar selftest_app rest → HasValues (value_at selftest_app rest) (Selftest number cores) → ⊥)
+    → (command : Command) → Asks (codes "selftest") rest command → ⊥
+unfolding Asks
+selftest_refused rest none (Selftest number cores) asks = none number cores asks.1 asks.2
+selftest_refused rest none other asks = names_differ (codes "selftest") (name_of other) refl asks.0
 
 -- nor do words that give no `convert`
 pub convert_refused : (rest : List Text)
@@ -69,12 +91,33 @@ unfolding Asks
 convert_refused rest none (Convert cert) asks = none cert asks.1 asks.2
 convert_refused rest none other asks = names_differ (codes "convert") (name_of other) refl asks.0
 
--- a name that is no command's asks for nothing
-pub unknown_refused : (name : Text) (rest : List Text) → (name ≡ codes "analyse" → ⊥) → (name ≡ codes "check" → ⊥) → (name ≡ codes "replay" → ⊥) → (name ≡ codes "report" → ⊥) → (name ≡ codes "convert" → ⊥) →
-    (command : Command) → Asks name rest command → ⊥
+-- nor do words that give no `audit`
+pub audit_refused : (rest : List Text)
+    → ((jobs scenario run : Text) (prec : Option Text) (cores : ℕ) → IsInGrammar audit_app rest → HasValues (value_at audit_app rest) (Audit jobs scenario run prec cores) → ⊥)
+    → (command : Command) → Asks (codes "audit") rest command → ⊥
 unfolding Asks
-unknown_refused name rest analyse check replay report convert (Analyse jobs prec cores budget) asks = analyse asks.0
-unknown_refused name rest analyse check replay report convert (Check jobs cert prec cores) asks = check asks.0
-unknown_refused name rest analyse check replay report convert (Replay jobs scenario prec cores) asks = replay asks.0
-unknown_refused name rest analyse check replay report convert (Report jobs cert prec cores tasks) asks = report asks.0
-unknown_refused name rest analyse check replay report convert (Convert cert) asks = convert asks.0
+audit_refused rest none (Audit jobs scenario run prec cores) asks = none jobs scenario run prec cores asks.1 asks.2
+audit_refused rest none other asks = names_differ (codes "audit") (name_of other) refl asks.0
+
+-- nor do words that give no `unroll`
+pub unroll_refused : (rest : List Text)
+    → ((tasks : Text) (horizon : ℕ) (policy : Policy) → IsInGrammar unroll_app rest → HasValues (value_at unroll_app rest) (Unroll tasks horizon policy) → ⊥)
+    → (command : Command) → Asks (codes "unroll") rest command → ⊥
+unfolding Asks
+unroll_refused rest none (Unroll tasks horizon policy) asks = none tasks horizon policy asks.1 asks.2
+unroll_refused rest none other asks = names_differ (codes "unroll") (name_of other) refl asks.0
+
+-- a name that is no command's asks for nothing
+pub unknown_refused : (name : Text) (rest : List Text) → (name ≡ codes "analyse" → ⊥) → (name ≡ codes "check" → ⊥) → (name ≡ codes "replay" → ⊥) → (name ≡ codes "attain" → ⊥) → (name ≡ codes "report" → ⊥)
+    → (name ≡ codes "selftest" → ⊥) → (name ≡ codes "convert" → ⊥) → (name ≡ codes "audit" → ⊥) → (name ≡ codes "unroll" → ⊥)
+    → (command : Command) → Asks name rest command → ⊥
+unfolding Asks
+unknown_refused name rest analyse check replay attain report selftest convert audit unroll (Analyse jobs prec cores budget) asks = analyse asks.0
+unknown_refused name rest analyse check replay attain report selftest convert audit unroll (Check jobs cert prec cores) asks = check asks.0
+unknown_refused name rest analyse check replay attain report selftest convert audit unroll (Replay jobs scenario prec cores) asks = replay asks.0
+unknown_refused name rest analyse check replay attain report selftest convert audit unroll (Attain jobs task job end budget) asks = attain asks.0
+unknown_refused name rest analyse check replay attain report selftest convert audit unroll (Report jobs cert prec cores tasks) asks = report asks.0
+unknown_refused name rest analyse check replay attain report selftest convert audit unroll (Selftest number cores) asks = selftest asks.0
+unknown_refused name rest analyse check replay attain report selftest convert audit unroll (Convert cert) asks = convert asks.0
+unknown_refused name rest analyse check replay attain report selftest convert audit unroll (Audit jobs scenario run prec cores) asks = audit asks.0
+unknown_refused name rest analyse check replay attain report selftest convert audit unroll (Unroll tasks horizon policy) asks = unroll asks.0

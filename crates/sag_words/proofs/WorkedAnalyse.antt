@@ -1,5 +1,5 @@
 -- What some lists of words after `analyse` come to.
-use Rattle.std.proofs.Common.{◌≡◌, ◌∷◌, [], ℕ, Some, None, arith, codes, lit<, lit≤, refl, true}
+use Rattle.std.proofs.Common.{◌≡◌, ◌∷◌, [], Some, None, arith, codes, lit<, lit≤, refl, true}
 use Rattle.clap.specs.Words.{fault_of, is_simple_and_free}
 use Rattle.clap.specs.declared.error.kind.ErrorKind.TheVariants.{UnknownArgument}
 use Rattle.clap.proofs.OnLiterals.{clap_on_literals}

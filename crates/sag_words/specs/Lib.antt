@@ -1,10 +1,16 @@
 pub mod Apps
 pub mod Numbers
+pub mod Ends
+pub mod Policies
 pub mod Analyse
 pub mod Check
 pub mod Replay
+pub mod Attain
 pub mod Flags
 pub mod Report
+pub mod Selftest
 pub mod Convert
+pub mod Audit
+pub mod Unroll
 pub mod Words
 pub mod Laws

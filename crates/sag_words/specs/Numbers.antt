@@ -1,12 +1,25 @@
--- The numbers that options give.
---   GivesCores    the text of `--cores`, where there is one, gives this number of cores
---   GivesBudget   the text of `--budget`, where there is one, gives this budget
+-- The numbers that places and options give.
+--   GivesNumber    the text of a place gives this number
+--   GivesHorizon   the text of a place gives this horizon
+--   GivesCores     the text of `--cores`, where there is one, gives this number of cores
+--   GivesBudget    the text of `--budget`, where there is one, gives this budget
 use Rattle.std.specs.Prelude.{◌≡◌, ◌≤◌, ℕ, Option, None, Some}
 use Rattle.clap.specs.Words.{Text}
 use Rattle.csv_numbers.specs.Fields.{Spells}
 use Rattle.job_model.specs.declared.limits.TheConstants.{MOST_CORES}
 use Rattle.sag_graph.specs.declared.TheConstants.{MOST_BUDGET}
+use Rattle.task_unroll.specs.declared.limits.TheConstants.{MOST_HORIZON}
 use Rattle.sag_words.specs.declared.numbers.TheConstants.{DEFAULT_BUDGET}
+
+-- the text is there, and spells the number as a field of a CSV file does
+abbrev pub GivesNumber : Option Text → ℕ → Type 0
+GivesNumber None number = ⊥
+GivesNumber (Some text) number = Spells text number
+
+-- the text is there, and spells a moment from 1 to the latest horizon, as a field of a CSV file does
+abbrev pub GivesHorizon : Option Text → ℕ → Type 0
+GivesHorizon None horizon = ⊥
+GivesHorizon (Some text) horizon = Spells text horizon × (1 ≤ horizon) × (horizon ≤ MOST_HORIZON)
 
 -- the text spells a number from 1 to the most cores, as a field of a CSV file does; without a text there is one core
 abbrev pub GivesCores : Option Text → ℕ → Type 0

@@ -1,6 +1,8 @@
 //! What words can ask for.
 
+use job_model::End;
 use sag_edge::FileName;
+use task_unroll::Policy;
 
 /// What the words ask for.
 #[derive(Drop)]
@@ -26,6 +28,14 @@ pub enum Command {
         prec: Option<FileName>,
         cores: u16,
     },
+    /// `attain JOBS TASK JOB best|worst [--budget N]`: a scenario in which a job finishes at an end of its interval.
+    Attain {
+        jobs: FileName,
+        task: u64,
+        job: u64,
+        end: End,
+        budget: u32,
+    },
     /// `report JOBS CERT [--prec FILE] [--cores N] [--tasks]`: bounds on response times, by job or by task.
     Report {
         jobs: FileName,
@@ -34,8 +44,27 @@ pub enum Command {
         cores: u16,
         tasks: bool,
     },
+    /// `selftest NUMBER [--cores N]`: the size of the graph of the workload of that number.
+    Selftest {
+        number: u64,
+        cores: u16,
+    },
     /// `convert CERT`: a certificate of the old version in the new one.
     Convert {
         cert: FileName,
+    },
+    /// `audit JOBS SCENARIO RUN [--prec FILE] [--cores N]`: whether a recorded run is legal.
+    Audit {
+        jobs: FileName,
+        scenario: FileName,
+        run: FileName,
+        prec: Option<FileName>,
+        cores: u16,
+    },
+    /// `unroll TASKS HORIZON POLICY`: the jobs of periodic tasks that are released before a moment.
+    Unroll {
+        tasks: FileName,
+        horizon: u64,
+        policy: Policy,
     },
 }

@@ -2,19 +2,27 @@
 #![tactic(auto)]
 
 mod analyse;
+mod attain;
+mod audit;
 mod check;
 mod command;
 mod convert;
+mod ends;
 mod fault;
 mod flags;
 mod laws;
 mod names;
 mod numbers;
 mod parse;
+#[cfg(test)]
+mod place_tests;
+mod policies;
 mod replay;
 mod report;
+mod selftest;
 #[cfg(test)]
 mod tests;
+mod unroll;
 mod words;
 
 pub use command::Command;

@@ -1,11 +1,12 @@
-//! The numbers of options.
+//! The numbers of places and options.
 
 ghost use Rattle.std.specs.Prelude.{ℕ, MatchOption, option_map};
-ghost use Rattle.sag_words.specs.Numbers.{GivesBudget, GivesCores};
+ghost use Rattle.sag_words.specs.Numbers.{GivesBudget, GivesCores, GivesHorizon, GivesNumber};
 
 use csv_numbers::read_number;
 use job_model::MOST_CORES;
 use sag_graph::MOST_BUDGET;
+use task_unroll::MOST_HORIZON;
 
 /// The budget of states where none is given.
 pub const DEFAULT_BUDGET: u32 = 100_000;
@@ -39,6 +40,29 @@ pub(crate) fn budget_of(text: Option<&str>) -> Option<u32>
     let number = read_number(text.as_bytes()).ok()?;
     if 1 <= number && number <= u64::from(MOST_BUDGET) {
         Some(number as u32)
+    } else {
+        None
+    }
+}
+
+/// The number that a place gives.
+pub(crate) fn number_of(text: Option<&str>) -> Option<u64>
+    ensures { MatchOption result
+        ((number : ℕ) → ¬ GivesNumber (option_map (λ text. text.now) text.entry) number)
+        (GivesNumber (option_map (λ text. text.now) text.entry)) }
+{
+    read_number(text?.as_bytes()).ok()
+}
+
+/// The horizon that a place gives: a moment from 1 to `MOST_HORIZON`.
+pub(crate) fn horizon_of(text: Option<&str>) -> Option<u64>
+    ensures { MatchOption result
+        ((horizon : ℕ) → ¬ GivesHorizon (option_map (λ text. text.now) text.entry) horizon)
+        (GivesHorizon (option_map (λ text. text.now) text.entry)) }
+{
+    let horizon = read_number(text?.as_bytes()).ok()?;
+    if 1 <= horizon && horizon <= MOST_HORIZON {
+        Some(horizon)
     } else {
         None
     }

@@ -11,7 +11,7 @@ fn put(alloc: Global, line: &mut Vec<String>, words: &[&str]) -> Result<(), Allo
 }
 
 // The words of `sag` and that command, with these after them.
-fn line_of(alloc: Global, name: &str, rest: &[&str]) -> Result<Vec<String>, AllocError> {
+pub(crate) fn line_of(alloc: Global, name: &str, rest: &[&str]) -> Result<Vec<String>, AllocError> {
     let mut line = Vec::new(alloc);
     put(alloc, &mut line, &["sag", name])?;
     put(alloc, &mut line, rest)?;

@@ -5,10 +5,14 @@ ghost use Rattle.sag_words.specs.Words.{Asks, WordsOf};
 ghost use Rattle.sag_words.specs.declared.command.Command.{Command};
 
 use crate::analyse::read_analyse;
+use crate::attain::read_attain;
+use crate::audit::read_audit;
 use crate::check::read_check;
 use crate::convert::read_convert;
 use crate::replay::read_replay;
 use crate::report::read_report;
+use crate::selftest::read_selftest;
+use crate::unroll::read_unroll;
 use crate::{Command, WordFault};
 use std::alloc::Global;
 
@@ -22,18 +26,23 @@ fn read_named(alloc: Global, name: &str, rest: &[String]) -> Result<Command, Wor
         "analyse" => read_analyse(alloc, rest),
         "check" => read_check(alloc, rest),
         "replay" => read_replay(alloc, rest),
+        "attain" => read_attain(alloc, rest),
         "report" => read_report(alloc, rest),
+        "selftest" => read_selftest(alloc, rest),
         "convert" => read_convert(alloc, rest),
+        "audit" => read_audit(alloc, rest),
+        "unroll" => read_unroll(alloc, rest),
         _ => Err(WordFault::Usage),
     }
 }
 
 /// Reads the program's name, the command's name and the words after it.
 ///
-/// Names are compared exactly, and no word is trimmed. An option stands before, between or after the places, as
-/// `--name value` or `--name=value`, and at most once. Any other word that begins with `-` and is longer is refused, also
-/// as an option's value after a space; but after the word `--`, which is no value, each word is for a place. There are
-/// no words for help or for a version. A number is one or more digits, with any number of zeros in front.
+/// Names, ends and policies are compared exactly, and no word is trimmed. An option stands before, between or after the
+/// places, as `--name value` or `--name=value`, and at most once. Any other word that begins with `-` and is longer is
+/// refused, also as an option's value after a space; but after the word `--`, which is no value, each word is for a
+/// place. There are no words for help or for a version. A number is one or more digits, with any number of zeros in
+/// front.
 pub fn read_words(alloc: Global, words: &[String]) -> Result<Command, WordFault>
     ensures read { IfOk result (WordsOf (map string_bytes words.now)) }
     ensures usage { IfErr result (λ fault. fault ≡ WordFault.Usage →

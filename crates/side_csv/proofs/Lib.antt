@@ -1,7 +1,9 @@
 mod OnePrecedenceFault
-mod OneScenarioFault
+mod OneRowFault
 mod PrecedenceLemmas
 mod RowLemmas
+mod ItemLemmas
 mod ScenarioLemmas
+mod RunLemmas
 mod WorkedPrecedence
 mod WriteLemmas

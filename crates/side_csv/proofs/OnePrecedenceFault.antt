@@ -1,5 +1,5 @@
 -- A precedence file has one first broken rule.
-use Rattle.std.proofs.Common.{◌≡◌, ◌≢◌, ◌<◌, ◌+◌, ◌++◌, ◌∷◌, ◌∙◌, inl, inr, ℕ, List, length, arith, refl, sym, ap, ap₂, subst}
+use Rattle.std.proofs.Common.{◌≡◌, ◌<◌, ◌+◌, ◌++◌, ◌∷◌, ◌∙◌, inl, inr, ℕ, List, length, arith, refl, sym, ap, ap₂, subst}
 use Rattle.std.specs.List.{AllZip}
 use Rattle.std.proofs.lemmas.Bool.{cases_lt}
 use Rattle.csv_numbers.specs.Laws.{OneFirstFault, RowsAgree, RowsKeepRules}
@@ -7,9 +7,8 @@ use Rattle.lists.proofs.Elements.{zip-middle}
 use Rattle.lists.proofs.Splits.{front-within, fronts-same}
 use Rattle.job_model.specs.Table.{Table}
 use Rattle.side_csv.specs.Laws.{OnePrecedenceFault}
-use Rattle.side_csv.specs.PrecedenceFaults.{FirstPrecedenceFault, FirstUnknown, ReachedEdgeRow}
+use Rattle.side_csv.specs.PrecedenceFaults.{FirstUnknown, ReachedEdgeRow}
 use Rattle.side_csv.specs.PrecedenceText.{NamesEdge, predecessor_in, successor_in}
-use Rattle.side_csv.specs.declared.fault.SideFault.{SideFault}
 use Rattle.side_csv.specs.declared.fault.SideFault.TheVariants as fault
 use Rattle.side_csv.proofs.PrecedenceLemmas.{known}
 

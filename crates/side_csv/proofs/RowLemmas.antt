@@ -1,6 +1,6 @@
 -- Rows that name jobs, and their places by job.
-use Rattle.std.proofs.Common.{◌≡◌, ◌≢◌, ◌∙◌, ℕ, ◌<◌, ◌⊎◌, inl, inr, List, [], ◌∷◌, ◌++◌, None, Some, Option, length, map, set, get_or, sym, ap, arith, length-append}
-use Rattle.std.specs.Prelude.{All, Contains, MatchOption}
+use Rattle.std.proofs.Common.{◌≡◌, ◌≢◌, ◌∙◌, ℕ, ◌<◌, ◌⊎◌, inl, inr, List, [], ◌∷◌, ◌++◌, None, Some, Option, length, map, set, get_or, refl, sym, ap, subst, arith, length-append}
+use Rattle.std.specs.Prelude.{All, AllPairs, Contains, MatchOption}
 use Rattle.std.specs.Option.{ForSome}
 use Rattle.std.proofs.lemmas.Bool.{cases_lt, cases_eq}
 use Rattle.std.proofs.lemmas.List.{get_or-map, get_or_default, length-map, get_or_append_left, get_or-set_other, get_or-set_same}
@@ -8,10 +8,9 @@ use Rattle.std.proofs.lemmas.List.Elements.{All-push}
 use Rattle.std.proofs.lemmas.List.Quantifiers.{all_pairs_push}
 use Rattle.std.proofs.Math.ListN.{length-set}
 use Rattle.std.proofs.Math.Seq.{get_or-append_seam}
-use Rattle.job_model.specs.Scenario.{CanRunAs}
 use Rattle.job_model.specs.Table.{IsTable, Table, id_of, job_at, no_job}
 use Rattle.side_csv.specs.Places.{Places}
-use Rattle.side_csv.specs.ScenarioText.{IsGood, KeepRules, NamesJob, cost_in, ids_of, release_in}
+use Rattle.side_csv.specs.RowPerJob.{IsGood, KeepRules, NamesJob, ids_of}
 
 -- the IDs of each row are among those of the rows
 pub contains-row : (rows : List (List ℕ)) (k : ℕ) (y : ℕ × ℕ) → k < length rows → ids_of (get_or rows k []) ≡ y → Contains (map ids_of rows) y
@@ -57,10 +56,10 @@ pub names-same : (table : Table) → IsTable table → (row other : List ℕ) (i
 names-same table is_table row other i j one two same = job-same table is_table i j one.is_job two.is_job (sym one.ids_are ∙ same ∙ two.ids_are)
 
 -- one more good row, of a job that no row names
-pub KeepRules-push : (table : Table) (rows : List (List ℕ)) (row : List ℕ) (j : ℕ) → KeepRules table rows → NamesJob table row j → CanRunAs (job_at table j) (release_in row) (cost_in row)
-    → (¬ Contains (map ids_of rows) (id_of (job_at table j))) → KeepRules table (rows ++ row ∷ [])
-KeepRules-push table rows row j kept names can_run free = record {
-  each = All-push (IsGood table) rows row kept.each (record { job = j; names = names; can_run = can_run });
+pub KeepRules-push : (outside : ℕ → List ℕ → Option ℕ) (table : Table) (rows : List (List ℕ)) (row : List ℕ) (j : ℕ) → KeepRules outside table rows → NamesJob table row j → outside j row ≡ None
+    → (¬ Contains (map ids_of rows) (id_of (job_at table j))) → KeepRules outside table (rows ++ row ∷ [])
+KeepRules-push outside table rows row j kept names inside free = record {
+  each = All-push (IsGood outside table) rows row kept.each (record { job = j; names = names; inside = inside });
   ids_differ = all_pairs_push (λ a b. ids_of a ≢ ids_of b) rows row kept.ids_differ (λ k d below same. free (contains-row rows k (id_of (job_at table j)) below (ap ids_of (get_or_default rows k [] d below) ∙ same ∙ names.ids_are)));
 }
 
@@ -112,3 +111,29 @@ Places-push table is_table rows row places j are names = record {
         rw (get_or-set_other places j i (Some (length rows)) None apart) (place-kept table is_table rows row j i (get_or places i None) names below apart (are.each i below))
   ];
 }
+
+-- two rows of the same IDs are one
+pub index-same : (rows : List (List ℕ)) → AllPairs (λ a b. ids_of a ≢ ids_of b) rows → (i j : ℕ) → i < length rows → j < length rows → ids_of (get_or rows i []) ≡ ids_of (get_or rows j []) → i ≡ j
+index-same rows apart i j here there same = elim (cases_lt i j) [
+  | inl less ↦ absurd (apart i j [] less there same)
+  | inr more ↦ elim (cases_lt j i) [
+    | inl less ↦ absurd (apart j i [] less here (sym same))
+    | inr other ↦ omega arith
+  ]
+]
+
+-- a row that names a job has IDs of the table
+pub names-contained : (table : Table) (row : List ℕ) (j : ℕ) → NamesJob table row j → Contains (map id_of table.jobs) (ids_of row)
+names-contained table row j names =
+    (j, omega (arith, names.is_job, length-map table.jobs id_of), get_or-map id_of table.jobs j no_job (ids_of row) names.is_job ∙ sym names.ids_are)
+
+-- of rows that keep the rules each is good
+pub good-here : (outside : ℕ → List ℕ → Option ℕ) (table : Table) (before : List (List ℕ)) (here : List ℕ) (after : List (List ℕ)) → KeepRules outside table (before ++ here ∷ after) → IsGood outside table here
+good-here outside table before here after kept =
+    subst (IsGood outside table) (get_or-append_seam before here after []) (kept.each (length before) [] (omega (arith, length-append before (here ∷ after))))
+
+-- no column of a good row is outside, by the job that it names
+pub inside-named : (outside : ℕ → List ℕ → Option ℕ) (table : Table) → IsTable table → (row : List ℕ) (j : ℕ) → IsGood outside table row → NamesJob table row j → outside j row ≡ None
+inside-named outside table is_table row j good names =
+    let same : good.job ≡ j = names-same table is_table row row good.job j good.names names refl in
+    subst (λ i. outside i row ≡ None) same good.inside

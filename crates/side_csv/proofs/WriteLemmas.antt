@@ -4,10 +4,12 @@ use Rattle.std.proofs.lemmas.List.Elements.{All-from_get_or}
 use Rattle.std.proofs.lemmas.List.FromFn.{get_or-map-range_with_len, length-map-range_with_len}
 use Rattle.csv_numbers.specs.Rows.{Rows}
 use Rattle.job_model.specs.Scenario.{Fits}
-use Rattle.job_model.specs.Table.{IsTable, Table}
+use Rattle.job_model.specs.Table.{IsTable, Table, job_at}
 use Rattle.side_csv.specs.ScenarioRows.{scenario_row, scenario_rows}
-use Rattle.side_csv.specs.ScenarioText.{IsGood, NamesJob, ScenarioText, ids_of}
+use Rattle.side_csv.specs.RowPerJob.{IsGood, NamesJob, ids_of}
+use Rattle.side_csv.specs.ScenarioText.{ScenarioText, outside_in_scenario}
 use Rattle.side_csv.proofs.RowLemmas.{job-same}
+use Rattle.side_csv.proofs.ScenarioLemmas.{none-outside}
 
 -- the row at a job's number
 row-at : (table : Table) (scenario : List (ℕ × ℕ)) (j : ℕ) (d : List ℕ) → j < length table.jobs → get_or (scenario_rows table scenario) j d ≡ scenario_row table scenario j
@@ -26,9 +28,9 @@ scenario-given table is_table scenario fits bytes reads =
       rows = rows;
       rows_are = reads;
       kept = record {
-        each = All-from_get_or (IsGood table) rows [] (λ j there.
+        each = All-from_get_or (IsGood (outside_in_scenario table) table) rows [] (λ j there.
             let below : j < length table.jobs = omega (arith, there, count) in
-            rw (row-at table scenario j [] below) (record { job = j; names = names-at table scenario j below; can_run = fits.each j below }));
+            rw (row-at table scenario j [] below) (record { job = j; names = names-at table scenario j below; inside = none-outside (job_at table j) (scenario_row table scenario j) (fits.each j below) }));
         ids_differ = λ i j d less there same.
             let below : j < length table.jobs = omega (arith, there, count) in
             let ids = ap ids_of (sym (row-at table scenario i d (omega (arith, less, below)))) ∙ same ∙ ap ids_of (row-at table scenario j d below) in
@@ -38,5 +40,5 @@ scenario-given table is_table scenario fits bytes reads =
       one_each = fits.one_each;
       given = λ j below.
           let row : List ℕ = scenario_row table scenario j in
-          (j, row, omega (arith, below, count), row-at table scenario j row below, record { names = names-at table scenario j below; release_is = refl; cost_is = refl });
+          (j, row, omega (arith, below, count), row-at table scenario j row below, record { names = names-at table scenario j below; item_is = refl });
     }

@@ -1,14 +1,20 @@
--- Laws of precedence files and of scenario files.
+-- Laws of the files beside the job file.
 --     OnePrecedence          the bytes of a precedence file fix its edges
 --     OnePrecedenceFault     it has one first broken rule at most
 --     PrecedenceKeepsRules   a file that names edges breaks none
 --     OneScenario            the bytes of a scenario file fix the scenario
 --     OneScenarioFault       it has one first broken rule at most
 --     ScenariosKeepRules     a file that gives a scenario breaks none
+--     OneRecordedRun         the bytes of a file of a run fix the run
+--     OneRunFault            it has one first broken rule at most
+--     RunsKeepRules          a file that gives a run breaks none
 use Rattle.std.specs.Prelude.{◌≡◌, ◌≢◌, ℕ, List}
 use Rattle.job_model.specs.Table.{IsTable, Table}
+use Rattle.run_meaning.specs.declared.places.Place.{Place}
 use Rattle.side_csv.specs.PrecedenceFaults.{FirstPrecedenceFault}
 use Rattle.side_csv.specs.PrecedenceText.{PrecedenceText}
+use Rattle.side_csv.specs.RunFaults.{FirstRunFault}
+use Rattle.side_csv.specs.RunText.{RunText}
 use Rattle.side_csv.specs.ScenarioFaults.{FirstScenarioFault}
 use Rattle.side_csv.specs.ScenarioText.{ScenarioText}
 use Rattle.side_csv.specs.declared.fault.SideFault.{SideFault}
@@ -46,3 +52,20 @@ abbrev pub ScenariosKeepRules : Type 0
 ScenariosKeepRules =
     (table : Table) (bytes : List ℕ) (scenario : List (ℕ × ℕ)) → IsTable table → ScenarioText table bytes scenario →
     (e : SideFault) → e ≢ fault.Memory → ¬ FirstScenarioFault table bytes e
+
+-- The bytes of a file of a run fix the run.
+abbrev pub OneRecordedRun : Type 0
+OneRecordedRun =
+    (table : Table) (scenario : List (ℕ × ℕ)) (bytes : List ℕ) (one other : List Place) → RunText table scenario bytes one → RunText table scenario bytes other → one ≡ other
+
+-- A file of a run has at most one first broken rule, beside want of memory.
+abbrev pub OneRunFault : Type 0
+OneRunFault =
+    (table : Table) (scenario : List (ℕ × ℕ)) (bytes : List ℕ) (one other : SideFault) → IsTable table → one ≢ fault.Memory → other ≢ fault.Memory →
+    FirstRunFault table scenario bytes one → FirstRunFault table scenario bytes other → one ≡ other
+
+-- A file that gives a run breaks no rule.
+abbrev pub RunsKeepRules : Type 0
+RunsKeepRules =
+    (table : Table) (scenario : List (ℕ × ℕ)) (bytes : List ℕ) (schedule : List Place) → IsTable table → RunText table scenario bytes schedule →
+    (e : SideFault) → e ≢ fault.Memory → ¬ FirstRunFault table scenario bytes e

@@ -1,6 +1,10 @@
+pub mod RowPerJob
+pub mod RowPerJobFaults
 pub mod ScenarioText
-pub mod ScenarioRows
 pub mod ScenarioFaults
+pub mod ScenarioRows
+pub mod RunText
+pub mod RunFaults
 pub mod Places
 pub mod PrecedenceText
 pub mod PrecedenceFaults

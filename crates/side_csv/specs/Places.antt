@@ -1,8 +1,8 @@
--- Where the rows of a scenario file have their jobs, while it is read.
+-- Where the rows of a file have their jobs, while it is read.
 --     Places table rows places     for each job the index of its row, if it has one
 use Rattle.std.specs.Prelude.{◌≡◌, ◌<◌, ℕ, [], List, Option, None, Contains, MatchOption, length, map, slice_index_or}
 use Rattle.job_model.specs.Table.{Table, id_of, job_at}
-use Rattle.side_csv.specs.ScenarioText.{ids_of}
+use Rattle.side_csv.specs.RowPerJob.{ids_of}
 
 -- for each job the index of its row, if it has one
 pub record Places (table : Table) (rows : List (List ℕ)) (places : List (Option ℕ)) : Type 0 where

@@ -1,17 +1,15 @@
--- Scenario files: a row for each job, in any order.
---     ids_of row, release_in row, cost_in row     the columns of a row
---     NamesJob table row j                        the row has the IDs of job number j
---     GivesValues table scenario j row            the row gives job number j its release and cost of the scenario
---     KeepRules table rows                        what the rows keep, whether or not each job has one
---     ScenarioText table bytes scenario           the file gives each job its release and cost of the scenario
-use Rattle.std.specs.Prelude.{◌≡◌, ◌≢◌, ◌<◌, ℕ, List, length, slice_index, All, AllPairs, Any}
-use Rattle.csv_numbers.specs.Rows.{Rows}
-use Rattle.job_model.specs.Scenario.{CanRunAs, cost_of, release_of}
-use Rattle.job_model.specs.Table.{Table, id_of, job_at}
-
--- the task ID and the job ID
-abbrev pub ids_of : List ℕ → ℕ × ℕ
-ids_of row = (slice_index row 0, slice_index row 1)
+-- Scenario files: a row for each job, in any order, with its release and its cost.
+--     release_in row, cost_in row             the columns of a row
+--     values_in row                           both
+--     intervals a row                         the columns with an interval
+--     first_outside columns                   the leftmost column that is outside its interval
+--     outside_in_scenario table j row         that of the row of job number j
+--     ScenarioText table bytes scenario       the file gives each job its release and cost of the scenario
+use Rattle.std.specs.Prelude.{◌∷◌, ◌||◌, [], ℕ, List, Option, find, nat_lt, slice_index}
+use Rattle.std.specs.Option.{option_map}
+use Rattle.job_model.specs.declared.job_row.Job.{Job}
+use Rattle.job_model.specs.Table.{Table, job_at}
+use Rattle.side_csv.specs.RowPerJob.{GivesEach}
 
 abbrev pub release_in : List ℕ → ℕ
 release_in row = slice_index row 2
@@ -19,32 +17,22 @@ release_in row = slice_index row 2
 abbrev pub cost_in : List ℕ → ℕ
 cost_in row = slice_index row 3
 
--- the row has the IDs of job number j
-pub record NamesJob (table : Table) (row : List ℕ) (j : ℕ) : Type 0 where
-  pub is_job : j < length table.jobs
-  pub ids_are : ids_of row ≡ id_of (job_at table j)
+-- the release and the cost
+abbrev pub values_in : List ℕ → ℕ × ℕ
+values_in row = (release_in row, cost_in row)
 
--- the row gives job number j its release and cost of the scenario
-pub record GivesValues (table : Table) (scenario : List (ℕ × ℕ)) (j : ℕ) (row : List ℕ) : Type 0 where
-  pub names : NamesJob table row j
-  pub release_is : release_in row ≡ release_of scenario j
-  pub cost_is : cost_in row ≡ cost_of scenario j
+-- the columns with an interval: the column's number, what stands there, and the ends of the interval
+abbrev pub intervals : Job → List ℕ → List (ℕ × ℕ × ℕ × ℕ)
+intervals a row = (3, release_in row, a.rmin, a.rmax) ∷ (4, cost_in row, a.cmin, a.cmax) ∷ []
 
--- the row names a job, with a release and a cost in its intervals
-pub record IsGood (table : Table) (row : List ℕ) : Type 0 where
-  pub job : ℕ
-  pub names : NamesJob table row job
-  pub can_run : CanRunAs (job_at table job) (release_in row) (cost_in row)
+-- the leftmost column that is outside its interval
+abbrev pub first_outside : List (ℕ × ℕ × ℕ × ℕ) → Option ℕ
+first_outside columns = option_map (λ c. c.0) (find (λ c. nat_lt c.1 c.2 || nat_lt c.3 c.1) columns)
 
--- each row is good, and no two have the same IDs
-pub record KeepRules (table : Table) (rows : List (List ℕ)) : Type 0 where
-  pub each : All (IsGood table) rows
-  pub ids_differ : AllPairs (λ a b. ids_of a ≢ ids_of b) rows
+-- the leftmost column of a row that is outside its job's interval
+abbrev pub outside_in_scenario : Table → ℕ → List ℕ → Option ℕ
+outside_in_scenario table j row = first_outside (intervals (job_at table j) row)
 
 -- The rows of the file keep the rules, and one of them gives each job its release and cost of the scenario.
-pub record ScenarioText (table : Table) (bytes : List ℕ) (scenario : List (ℕ × ℕ)) : Type 0 where
-  pub rows : List (List ℕ)
-  pub rows_are : Rows bytes 4 rows
-  pub kept : KeepRules table rows
-  pub one_each : length scenario ≡ length table.jobs
-  pub given : (j : ℕ) → j < length table.jobs → Any (GivesValues table scenario j) rows
+abbrev pub ScenarioText : Table → List ℕ → List (ℕ × ℕ) → Type 0
+ScenarioText table bytes scenario = GivesEach 4 (outside_in_scenario table) values_in (0, 0) table bytes scenario

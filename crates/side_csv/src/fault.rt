@@ -1,7 +1,7 @@
 //! Why a file beside the job table is refused.
 
 ghost use Rattle.std.specs.Prelude.{◌≡◌};
-ghost use Rattle.side_csv.specs.ScenarioFaults.{side_fault_of};
+ghost use Rattle.side_csv.specs.RowPerJobFaults.{side_fault_of};
 
 use csv_numbers::CsvFault;
 use job_model::JobNo;
@@ -10,7 +10,7 @@ use job_model::JobNo;
 /// from 1.
 #[derive(Debug, PartialEq, Eq, Drop)]
 pub enum SideFault {
-    /// The text is no table of four numbers a row. The fault inside is never want of memory.
+    /// The text is no table of as many numbers a row as the file has columns. The fault inside is never want of memory.
     Csv(CsvFault),
     /// No job has these IDs: (row, column of the task ID).
     Unknown(u64, u8),
@@ -18,7 +18,7 @@ pub enum SideFault {
     Missing(JobNo),
     /// The row names the job of an earlier one: (row, earlier row).
     Twice(u64, u64),
-    /// The release or the cost is outside its interval: (row, column).
+    /// The number is outside its interval: (row, column).
     Outside(u64, u8),
     /// Memory ran out.
     Memory,

@@ -1,6 +1,8 @@
-//! Laws of precedence files and of scenario files.
+//! Laws of the files beside the job file.
 
-ghost use Rattle.side_csv.specs.Laws.{OnePrecedence, OnePrecedenceFault, OneScenario, OneScenarioFault, PrecedenceKeepsRules, ScenariosKeepRules};
+ghost use Rattle.side_csv.specs.Laws.{OnePrecedence, OnePrecedenceFault, PrecedenceKeepsRules};
+ghost use Rattle.side_csv.specs.Laws.{OneScenario, OneScenarioFault, ScenariosKeepRules};
+ghost use Rattle.side_csv.specs.Laws.{OneRecordedRun, OneRunFault, RunsKeepRules};
 
 use csv_numbers::{one_first_fault, rows_agree, rows_keep_rules};
 
@@ -47,6 +49,30 @@ pub fn one_scenario_fault()
 /// A scenario file that gives a scenario breaks no rule.
 pub fn scenarios_keep_rules()
     ensures { ScenariosKeepRules }
+{
+    rows_agree();
+    rows_keep_rules();
+}
+
+/// The bytes of a file of a run fix the run.
+pub fn one_recorded_run()
+    ensures { OneRecordedRun }
+{
+    rows_agree();
+}
+
+/// A file of a run has at most one first broken rule, beside want of memory.
+pub fn one_run_fault()
+    ensures { OneRunFault }
+{
+    rows_agree();
+    rows_keep_rules();
+    one_first_fault();
+}
+
+/// A file that gives a run breaks no rule.
+pub fn runs_keep_rules()
+    ensures { RunsKeepRules }
 {
     rows_agree();
     rows_keep_rules();

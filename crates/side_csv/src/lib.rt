@@ -1,9 +1,12 @@
-//! Files beside the job file, as CSV: scenarios, with a release and a cost for each job, and precedence edges.
+//! Files beside the job file, as CSV: scenarios, with a release and a cost for each job; precedence edges; and recorded
+//! runs, with a start and a core for each job.
 #![tactic(auto)]
 
 mod fault;
 mod laws;
 mod precedence;
+mod row_per_job;
+mod run;
 mod scenario;
 #[cfg(test)]
 mod tests;
@@ -11,9 +14,10 @@ mod write;
 
 pub use fault::SideFault;
 pub use laws::{
-    one_precedence, one_precedence_fault, one_scenario, one_scenario_fault, precedence_keeps_rules,
-    scenarios_keep_rules,
+    one_precedence, one_precedence_fault, one_recorded_run, one_run_fault, one_scenario,
+    one_scenario_fault, precedence_keeps_rules, runs_keep_rules, scenarios_keep_rules,
 };
 pub use precedence::read_edges;
+pub use run::{MOST_CORE, MOST_START, read_run};
 pub use scenario::read_scenario;
 pub use write::write_scenario;

@@ -3,15 +3,18 @@
 ghost use Rattle.std.specs.Prelude.{◌≡◌, ◌≢◌, ◌<◌, ℕ, All, Any, IfErr, IfOk, List, None, OnOk, length, slice_index_or};
 ghost use Rattle.std.specs.Option.{ForSome};
 ghost use Rattle.csv_numbers.specs.Rows.{Rows};
-ghost use Rattle.job_model.specs.Scenario.{CanRunAs, Fits};
-ghost use Rattle.job_model.specs.Table.{IsTable, job_at};
+ghost use Rattle.job_model.specs.Scenario.{Fits};
+ghost use Rattle.job_model.specs.Table.{IsTable};
 ghost use Rattle.side_csv.specs.Places.{Places};
-ghost use Rattle.side_csv.specs.ScenarioFaults.{FirstScenarioFault, ReachedScenarioRow};
-ghost use Rattle.side_csv.specs.ScenarioFaults.{first_outside as outside};
-ghost use Rattle.side_csv.specs.ScenarioText.{GivesValues, KeepRules, NamesJob, ScenarioText, cost_in, release_in};
+ghost use Rattle.side_csv.specs.RowPerJob.{GivesItem, KeepRules, NamesJob};
+ghost use Rattle.side_csv.specs.RowPerJobFaults.{ReachedRow};
+ghost use Rattle.side_csv.specs.ScenarioFaults.{FirstScenarioFault};
+ghost use Rattle.side_csv.specs.ScenarioText.{ScenarioText, outside_in_scenario, values_in};
+ghost use Rattle.side_csv.specs.ScenarioText.{first_outside as outside};
 
 use crate::SideFault;
 use crate::laws::{one_scenario, scenarios_keep_rules};
+use crate::row_per_job::job_of_row;
 use csv_numbers::{NumberRows, read_numbers};
 use job_model::{JobNo, JobTable, Scenario};
 use std::alloc::Global;
@@ -29,8 +32,8 @@ fn first_outside(columns: &[Column]) -> Option<u8>
     Some(*column)
 }
 
-// The job of the row at this place, which no earlier row names.
-fn job_of_row(
+// The job of the row at this place, which no earlier row names and whose release and cost are in its intervals.
+fn good_job_of_row(
     row: &[u64],
     place: u64,
     table: &JobTable,
@@ -41,27 +44,22 @@ fn job_of_row(
     requires earlier { All (λ o. ForSome o (λ k. k < place)) places.now }
     ensures names { IfOk result (NamesJob table.now row.now) }
     ensures free { IfOk result (λ j. slice_index_or places.now j None ≡ None) }
-    ensures can_run { IfOk result (λ j.
-        CanRunAs (job_at table.now j) (release_in row.now) (cost_in row.now)) }
-    ensures fault { IfErr result (λ e. (bytes : List ℕ) (r : ReachedScenarioRow table.now bytes place)
+    ensures inside { IfOk result (λ j. outside_in_scenario table.now j row.now ≡ None) }
+    ensures fault { IfErr result (λ e. (bytes : List ℕ)
+        (r : ReachedRow 4 (outside_in_scenario table.now) table.now bytes place)
         → r.here ≡ row.now → Places table.now r.before places.now
         → FirstScenarioFault table.now bytes e) }
 {
-    let Some(no) = table.find(row[0], row[1]) else {
-        return Err(SideFault::Unknown(place, 1));
-    };
-    if let Some(earlier) = places[usize::from(no.0)] {
-        return Err(SideFault::Twice(place, earlier as u64 + 1));
-    }
+    let no = job_of_row(row, place, table, places)?;
     let job = table.job(no);
     let columns = [
         (3, row[2], job.rmin, job.rmax),
         (4, row[3], job.cmin, job.cmax),
     ];
-    if let Some(column) = first_outside(&columns) {
-        return Err(SideFault::Outside(place, column));
+    match first_outside(&columns) {
+        Some(column) => Err(SideFault::Outside(place, column)),
+        None => Ok(no),
     }
-    Ok(no)
 }
 
 // For each job the index of its row, if it has one.
@@ -72,7 +70,7 @@ fn find_rows(
 ) -> Result<Vec<Option<usize>>, SideFault>
     requires { All (λ row. length row ≡ 4) rows.now }
     ensures places { IfOk result (λ places. Places table.now rows.now places.items) }
-    ensures kept { OnOk result (KeepRules table.now rows.now) }
+    ensures kept { OnOk result (KeepRules (outside_in_scenario table.now) table.now rows.now) }
     ensures table { IsTable table.now }
     ensures fault { IfErr result (λ e.
         (bytes : List ℕ) → Rows bytes 4 rows.now → FirstScenarioFault table.now bytes e) }
@@ -81,7 +79,7 @@ fn find_rows(
         return Err(SideFault::Memory);
     };
     for i in 0..rows.len() {
-        let no = job_of_row(rows.row(i), i as u64 + 1, table, &places)?;
+        let no = good_job_of_row(rows.row(i), i as u64 + 1, table, &places)?;
         places[usize::from(no.0)] = Some(i);
     }
     Ok(places)
@@ -98,9 +96,10 @@ fn values_of_jobs(
     requires places { Places table.now rows.now places.now }
     ensures one_each { IfOk result (λ values. length values.items ≡ length table.now.jobs) }
     ensures given { IfOk result (λ values. (j : ℕ) → j < length table.now.jobs →
-        Any (GivesValues table.now values.items j) rows.now) }
+        Any (GivesItem values_in (0, 0) table.now values.items j) rows.now) }
     ensures fault { IfErr result (λ e. (bytes : List ℕ) → Rows bytes 4 rows.now
-        → KeepRules table.now rows.now → FirstScenarioFault table.now bytes e) }
+        → KeepRules (outside_in_scenario table.now) table.now rows.now
+        → FirstScenarioFault table.now bytes e) }
 {
     let Ok(mut values) = Vec::with_capacity(alloc, places.len()) else {
         return Err(SideFault::Memory);

@@ -1,6 +1,7 @@
-use crate::{SideFault, read_edges, read_scenario, write_scenario};
+use crate::{SideFault, read_edges, read_run, read_scenario, write_scenario};
 use csv_numbers::CsvFault;
 use job_model::{Job, JobNo, JobTable};
+use run_meaning::Place;
 use std::alloc::{AllocError, Global};
 
 // The table of these rows.
@@ -169,4 +170,62 @@ fn judges_all_edges_by_csv_first(rt: HostRuntime) {
             "{text:?}"
         );
     }
+}
+
+// What a text gives two jobs as their run, where they are released at 1 and 0 and cost 2 and 3; or why it gives none.
+fn run_of(alloc: Global, text: &[u8]) -> Result<Vec<Place>, SideFault> {
+    let Ok(table) = two_jobs(alloc) else {
+        return Err(SideFault::Memory);
+    };
+    let scenario = read_scenario(alloc, b"h\n1,1,1,2\n2,1,0,3\n", &table)?;
+    let run = read_run(alloc, text, &table, &scenario)?;
+    Ok(run.places)
+}
+
+// Whether it gives these starts and cores.
+fn gives_run(alloc: Global, text: &[u8], want: &[Place]) -> bool {
+    match run_of(alloc, text) {
+        Ok(places) => places.as_slice() == want,
+        Err(_) => false,
+    }
+}
+
+// Whether that is why it gives none.
+fn refuses_run(alloc: Global, text: &[u8], fault: SideFault) -> bool {
+    run_of(alloc, text).err() == Some(fault)
+}
+
+#[test]
+fn reads_runs_by_job(rt: HostRuntime) {
+    let places = [Place { start: 3, core: 0 }, Place { start: 0, core: 7 }];
+    let texts: [&[u8]; 2] = [b"h\n2,1,0,3,7\n1,1,3,5,0\n", b"h\n1,1,3,5,0\n2,1,0,3,7\n"];
+    for text in texts {
+        assert!(rt; gives_run(rt.alloc(), text, &places), "{text:?}");
+    }
+}
+
+#[test]
+fn judges_rows_of_runs(rt: HostRuntime) {
+    let cases: [(&[u8], u64, u8); 4] = [
+        (b"h\n2,1,4611686018427387904,3,0\n", 1, 3),
+        (b"h\n2,1,0,4,65536\n", 1, 4),
+        (b"h\n1,1,3,5,0\n2,1,0,3,65536\n", 2, 5),
+        (b"h\n2,1,18446744073709551615,2,0\n", 1, 3),
+    ];
+    for (text, row, column) in cases {
+        assert!(rt;
+            refuses_run(rt.alloc(), text, SideFault::Outside(row, column)),
+            "{text:?}"
+        );
+    }
+}
+
+#[test]
+fn judges_the_jobs_of_runs(rt: HostRuntime) {
+    let alloc = rt.alloc();
+    let csv = SideFault::Csv(CsvFault::Width(1, 4));
+    assert!(rt; refuses_run(alloc, b"h\n1,1,3,5\n", csv));
+    assert!(rt; refuses_run(alloc, b"h\n9,1,3,5,0\n", SideFault::Unknown(1, 1)));
+    assert!(rt; refuses_run(alloc, b"h\n1,1,3,5,0\n1,1,9,9,9\n", SideFault::Twice(2, 1)));
+    assert!(rt; refuses_run(alloc, b"h\n1,1,3,5,0\n", SideFault::Missing(JobNo(1))));
 }

@@ -1,6 +1,7 @@
 -- The tied prospects that are kept at the start of the list, in place.
-use Rattle.std.proofs.Common.{◌≡◌, ◌∙◌, ℕ, zero, suc, ◌+◌, ◌<◌, ◌≤◌, true, false, not, List, [], ◌∷◌, ◌++◌, length, map, min, drop, get_or, refl, sym, ap, subst, arith}
+use Rattle.std.proofs.Common.{◌≡◌, ◌∙◌, ℕ, zero, suc, ◌+◌, ◌<◌, ◌≤◌, Bool, true, false, not, List, [], ◌∷◌, ◌++◌, length, map, min, drop, get_or, refl, sym, ap, subst, arith}
 use Rattle.std.specs.Prelude.{filter, nat_eq}
+use Rattle.std.specs.List.{list_all}
 use Rattle.std.proofs.Math.ListN.{set, length-set}
 use Rattle.std.specs.Cmp.Lexicographic.{pointwise}
 use Rattle.std.proofs.lemmas.Bool.{and_parts, cond-true, cond-false, eqb-true}
@@ -10,10 +11,11 @@ use Rattle.job_sets.specs.Subset.{is_member}
 use Rattle.lists.specs.Numbers.{greatest}
 use Rattle.job_model.specs.Table.{Table, job_at, predecessors}
 use Rattle.sag_time.specs.Interval.{Interval}
+use Rattle.start_windows.specs.declared.eligibility.Freed.{Freed}
 use Rattle.start_windows.specs.declared.eligibility.Prospect.{Prospect}
-use Rattle.start_windows.specs.Ends.{high_end}
-use Rattle.start_windows.specs.Window.{ready_beside}
-use Rattle.start_windows.specs.Prospects.{AreProspects, IsBehindOne, capped, is_tied, jobs_of}
+use Rattle.start_windows.specs.Ends.{high_end, low_end}
+use Rattle.start_windows.specs.Window.{latest_ready, ready_beside}
+use Rattle.start_windows.specs.Prospects.{AreProspects, IsBehindOne, capped, freed_by, is_tied, jobs_of}
 use Rattle.start_windows.proofs.ByUrgency.{Own}
 use Rattle.start_windows.proofs.Caps.{capped_push}
 
@@ -26,6 +28,24 @@ same_numbers (x ∷ xs) [] h = absurd cc
 same_numbers (x ∷ xs) (y ∷ ys) h =
     let parts = and_parts (nat_eq x y) (pointwise nat_eq xs ys) h in
     ap (λ z. z ∷ xs) (eqb-true x y parts.0) ∙ ap (λ l. y ∷ l) (same_numbers xs ys parts.1)
+
+-- jobs that wait for the same ones
+pub freed_same : (table : Table) (ends : List (ℕ × Interval)) (i j : ℕ) → predecessors table i ≡ predecessors table j → freed_by table ends i ≡ freed_by table ends j
+freed_same table ends i j e = ap after e
+  where
+    after : List ℕ → Freed
+    after ps = record { low = greatest (map (low_end ends) ps); high = greatest (map (high_end ends) ps) }
+
+-- jobs that wait for none together
+filter-all : (p : ℕ → Bool) (xs : List ℕ) → list_all p xs ≡ true → filter p xs ≡ xs
+filter-all p [] h = refl
+filter-all p (x ∷ xs) h =
+    let parts = and_parts (p x) (list_all p xs) h in
+    cond-true (p x) (x ∷ filter p xs) (filter p xs) parts.0 ∙ ap (λ l. x ∷ l) (filter-all p xs parts.1)
+
+pub ready_beside-apart : (table : Table) (ends : List (ℕ × Interval)) (j x : ℕ) → list_all (λ i. not (is_member i (predecessors table j))) (predecessors table x) ≡ true → latest_ready table ends x ≡ ready_beside table ends j x
+ready_beside-apart table ends j x h =
+    ap (λ (ps : List ℕ). greatest ((job_at table x).rmax ∷ map (high_end ends) ps)) (sym (filter-all (λ i. not (is_member i (predecessors table j))) (predecessors table x) h))
 
 -- what is kept of those seen sets the limits that all tied ones set
 pub record IsHeld (table : Table) (ends : List (ℕ × Interval)) (seen held : List Prospect) : Type 0 where

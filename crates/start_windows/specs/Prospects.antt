@@ -3,6 +3,7 @@
 --     window_of est cap        from est on, and before the cap
 --     cap_over, window_over, offer_over      the cap of j and its window, were xs the candidates
 --     is_near table w x        whether x may be released by w
+--     freed_by table ends j    when the predecessors of j have finished
 --     prospect_of, AreProspects              what is looked up of candidates
 --     IsByUrgency cs           each of the prospects is more urgent than all later ones
 --     is_tied c                whether predecessors hold it up after its latest release
@@ -15,12 +16,14 @@ use Rattle.std.specs.Prelude.{◌≡◌, ◌≤◌, ◌<◌, ℕ, suc, Bool, Lis
 use Rattle.std.specs.List.{count_by, sum_by}
 use Rattle.std.specs.Option.{option_map}
 use Rattle.job_sets.specs.Subset.{is_rising}
-use Rattle.lists.specs.Numbers.{least}
+use Rattle.lists.specs.Numbers.{greatest, least}
 use Rattle.job_model.specs.Ranks.{rank_of}
 use Rattle.job_model.specs.Table.{Table, job_at, has_urgency_over, predecessors}
 use Rattle.sag_time.specs.Interval.{Interval}
 use Rattle.start_windows.specs.declared.StartWindow.{StartWindow}
+use Rattle.start_windows.specs.declared.eligibility.Freed.{Freed}
 use Rattle.start_windows.specs.declared.eligibility.Prospect.{Prospect}
+use Rattle.start_windows.specs.Ends.{high_end, low_end}
 use Rattle.start_windows.specs.Window.{is_candidate, earliest_ready, latest_ready, earliest_start, ready_beside}
 
 -- the least of c and the numbers
@@ -48,9 +51,13 @@ offer_over table ends first certain xs j = option_map (λ w. (j, w)) (window_ove
 abbrev pub is_near : Table → ℕ → ℕ → Bool
 is_near table w x = nat_le (job_at table x).rmin w
 
+-- when the last predecessor of j finishes, at the earliest and at the latest
+abbrev pub freed_by : Table → List (ℕ × Interval) → ℕ → Freed
+freed_by table ends j = record { low = greatest (map (low_end ends) (predecessors table j)); high = greatest (map (high_end ends) (predecessors table j)) }
+
 -- what is looked up of a candidate
 abbrev pub prospect_of : Table → List (ℕ × Interval) → ℕ → Prospect
-prospect_of table ends j = record { job = j; rank = rank_of table j; earliest = earliest_ready table ends j; latest = latest_ready table ends j; released = (job_at table j).rmax }
+prospect_of table ends j = record { job = j; rank = rank_of table j; earliest = earliest_ready table ends j; latest = latest_ready table ends j; released = (job_at table j).rmax; freed = freed_by table ends j }
 
 -- jobs of the table, looked up
 abbrev pub AreProspects : Table → List (ℕ × Interval) → List Prospect → Type 0

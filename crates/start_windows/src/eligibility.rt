@@ -9,9 +9,9 @@ ghost use Rattle.job_model.specs.Table.{IsTable};
 ghost use Rattle.start_windows.specs.Window as windows;
 ghost use Rattle.start_windows.specs.Eligible.{IsFront, eligible_windows};
 ghost use Rattle.start_windows.specs.Prospects as prospects;
-ghost use Rattle.start_windows.specs.Prospects.{AreProspects, Collected, IsBehindOne, IsByUrgency, IsShuffle, cap_behind, capped, is_near, jobs_of, offer_over, prospect_of, window_of};
+ghost use Rattle.start_windows.specs.Prospects.{AreProspects, Collected, IsBehindOne, IsByUrgency, IsShuffle, cap_behind, capped, freed_by, is_near, jobs_of, offer_over, prospect_of, window_of};
 
-use crate::windows::{candidate, earliest_ready, latest_ready, lesser, ready_beside};
+use crate::windows::{candidate, lesser, ready_beside, wait_apart};
 use crate::{Ends, StartWindow};
 use job_model::JobTable;
 use job_sets::{JobNo, JobSet};
@@ -29,19 +29,64 @@ pub struct Prospect {
     latest: u64,
     // its latest release
     released: u64,
+    // when its predecessors have finished at the earliest and at the latest
+    freed: Freed,
 }
 
-// What is looked up of the job.
-fn look_up(table: &JobTable, ends: &Ends, job: JobNo) -> Prospect
-    requires { job < length table.now.jobs }
+// When the last predecessor of a job finishes, at the earliest and at the latest; 0 where none is listed.
+#[derive(Clone, Copy, PartialEq, Eq, Debug)]
+struct Freed {
+    low: u64,
+    high: u64,
+}
+
+// When the predecessors of the job have finished, by a look at each of them.
+fn freed_after(table: &JobTable, ends: &Ends, job: JobNo) -> Freed
+    ensures { result ≡ freed_by table.now ends.now.items job }
+{
+    let mut low = 0;
+    let mut high = 0;
+    for no in table.preds(job) {
+        if let Some(span) = ends.get(*no) {
+            low = span.lo().max(low);
+            high = span.hi().max(high);
+        }
+    }
+    Freed { low, high }
+}
+
+// When the predecessors of the job have finished. Jobs that wait for the same ones often stand side by side, so the last
+// one found may know it.
+fn freed_beside(table: &JobTable, ends: &Ends, found: &[Prospect], job: JobNo) -> Freed
+    requires { AreProspects table.now ends.now.items found.now }
+    ensures { result ≡ freed_by table.now ends.now.items job }
+{
+    if table.preds(job).is_empty() {
+        return Freed { low: 0, high: 0 };
+    }
+    if let Some(other) = found.last() {
+        if table.preds(other.job) == table.preds(job) {
+            return other.freed;
+        }
+    }
+    freed_after(table, ends, job)
+}
+
+// What is looked up of the job, behind others.
+fn look_up(table: &JobTable, ends: &Ends, found: &[Prospect], job: JobNo) -> Prospect
+    requires job { job < length table.now.jobs }
+    requires prospects { AreProspects table.now ends.now.items found.now }
     ensures { result ≡ prospect_of table.now ends.now.items job }
 {
+    let freed = freed_beside(table, ends, found, job);
+    let row = table.job(job);
     Prospect {
         job,
         rank: table.rank(job),
-        earliest: earliest_ready(table, ends, job),
-        latest: latest_ready(table, ends, job),
-        released: table.job(job).rmax,
+        earliest: row.rmin.max(freed.low),
+        latest: row.rmax.max(freed.high),
+        released: row.rmax,
+        freed,
     }
 }
 
@@ -93,7 +138,7 @@ fn walk(
             return Ok(ready);
         }
         if candidate(table, set, entry.1) {
-            let item = look_up(table, ends, entry.1);
+            let item = look_up(table, ends, found, entry.1);
             ready = Some(lesser(ready, item.latest));
             found.push(item)?;
         }
@@ -138,6 +183,18 @@ fn window_up_to(est: u64, last: u64) -> Option<StartWindow>
     }
 }
 
+// The moment at which the other is certainly ready once the job is. Where they wait for no job together, it is looked up.
+fn ready_once(table: &JobTable, ends: &Ends, job: JobNo, other: &Prospect) -> u64
+    requires prospect { other.now ≡ prospect_of table.now ends.now.items other.now.job }
+    requires job { other.now.job < length table.now.jobs }
+    ensures { result ≡ windows.ready_beside table.now ends.now.items job other.now.job }
+{
+    if wait_apart(table, job, other.job) {
+        return other.latest;
+    }
+    ready_beside(table, ends, job, other.job)
+}
+
 // The window from `est` to `last` of a job, but for the moments at which one of these, which are
 // more urgent, is certainly there.
 fn window_beside(
@@ -158,7 +215,7 @@ fn window_beside(
     let mut lst = last;
     for other in urgent {
         if other.released <= lst {
-            let limit = ready_beside(table, ends, job, other.job);
+            let limit = ready_once(table, ends, job, other);
             if limit <= est {
                 return None;
             }

@@ -1,6 +1,7 @@
 //! When a job may start next.
 
-ghost use Rattle.std.specs.Prelude.{◌≡◌, ◌<◌, length, min};
+ghost use Rattle.std.specs.Prelude.{◌≡◌, ◌<◌, length, min, not};
+ghost use Rattle.std.specs.List.{list_all};
 ghost use Rattle.std.specs.Option.{option_map_or};
 ghost use Rattle.job_sets.specs.Subset.{is_member};
 ghost use Rattle.job_model.specs.Table.{predecessors};
@@ -36,7 +37,7 @@ fn high_end(ends: &Ends, job: JobNo) -> u64
 }
 
 // When the job is ready at the earliest.
-pub(crate) fn earliest_ready(table: &JobTable, ends: &Ends, job: JobNo) -> u64
+fn earliest_ready(table: &JobTable, ends: &Ends, job: JobNo) -> u64
     requires { job < length table.now.jobs }
     ensures { result ≡ windows.earliest_ready table.now ends.now.items job }
 {
@@ -48,7 +49,7 @@ pub(crate) fn earliest_ready(table: &JobTable, ends: &Ends, job: JobNo) -> u64
 }
 
 // When the job is ready at the latest.
-pub(crate) fn latest_ready(table: &JobTable, ends: &Ends, job: JobNo) -> u64
+fn latest_ready(table: &JobTable, ends: &Ends, job: JobNo) -> u64
     requires { job < length table.now.jobs }
     ensures { result ≡ windows.latest_ready table.now ends.now.items job }
 {
@@ -64,6 +65,17 @@ fn precedes(table: &JobTable, first: JobNo, second: JobNo) -> bool
     ensures { result ≡ is_member first (predecessors table.now second) }
 {
     table.preds(second).contains(&first)
+}
+
+// Whether no predecessor of the second job is one of the first.
+pub(crate) fn wait_apart(table: &JobTable, first: JobNo, second: JobNo) -> bool
+    ensures { result ≡ list_all (λ i. not (is_member i (predecessors table.now first)))
+        (predecessors table.now second) }
+{
+    table
+        .preds(second)
+        .iter()
+        .all(|no| !precedes(table, *no, first))
 }
 
 // When `other` is certainly ready once the job is.

@@ -1,4 +1,4 @@
-use Rattle.std.proofs.Common.{ap, refl}
+use Rattle.std.proofs.Common.{refl}
 use Rattle.std.proofs.lemmas.Result.{err_from_is_err_and}
 use Rattle.sag_engine.specs.Work.Work.{Converts}
 use Rattle.sag_engine.proofs.PlanLemmas.{follows_then, follows_halt, follows_pure}

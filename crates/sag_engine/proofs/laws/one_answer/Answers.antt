@@ -30,4 +30,17 @@ returns c = law.one_answer (record {
     no_fault_of_readable = c.no_fault_of_readable.ensures;
   };
   one_run = c.one_run.ensures;
+  tasks = record {
+    one_task_list = c.one_task_list.ensures;
+    one_task_fault = c.one_task_fault.ensures;
+    tasks_keep_rules = c.tasks_keep_rules.ensures;
+    one_unroll_fault = c.one_unroll_fault.ensures;
+    unrolled_keeps_rules = c.unrolled_keeps_rules.ensures;
+  };
+  audits = record {
+    one_recorded_run = c.one_recorded_run.ensures;
+    one_run_fault = c.one_run_fault.ensures;
+    runs_keep_rules = c.runs_keep_rules.ensures;
+    one_first_break = c.one_first_break.ensures;
+  };
 })

@@ -4,6 +4,9 @@ use Rattle.sag_engine.proofs.ConvertLemmas.{conversions_by}
 use Rattle.sag_engine.proofs.ReportLemmas.{reports_by}
 use Rattle.sag_engine.proofs.GraphCertificate.{certificates_by}
 use Rattle.sag_engine.proofs.ReplayLemmas.{runs_by}
+use Rattle.sag_engine.proofs.AttainLemmas.{ends_by}
+use Rattle.sag_engine.proofs.AuditLemmas.{legals_by}
+use Rattle.sag_engine.proofs.UnrollLemmas.{job_files_by}
 use Rattle.sag_engine.proofs.RunLemmas.{answers_by, contents_by, fault_text_by, finished_by, later_by, none_on_read_fault_by, prefix_by, read_cause_by, tells_by, text_by, write_cause_by}
 use Rattle.sag_engine.proofs.run.sag_run.Goals as goal
 
@@ -17,6 +20,9 @@ returns g c =
       yes = yeses_by c.one_command.ensures words works;
       reports = reports_by c.one_command.ensures c.responses_within_wcrt.ensures words works;
       converts = conversions_by c.one_command.ensures c.converted_is_readable.ensures c.old_is_valid.ensures words works;
+      job_files = job_files_by c.one_command.ensures words works;
+      legals = legals_by c.one_command.ensures c.starts_agree.ensures words works;
+      ends = ends_by c.one_command.ensures c.ends_are_attained.ensures c.job_lines_tell_spans.ensures words works;
       certificates = certificates_by c.one_command.ensures (record { valid = c.graph_is_valid.ensures; readable = c.graph_is_readable.ensures; short = c.graph_is_short.ensures }) words works;
       finished = finished_by words works;
       read_fault = read_cause_by words works;

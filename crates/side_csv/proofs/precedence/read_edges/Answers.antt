@@ -3,7 +3,7 @@ use Rattle.std.specs.Prelude.{All}
 use Rattle.std.specs.List.{AllZip}
 use Rattle.std.proofs.lemmas.Result.{IfOk-weaker, MatchResult-weaker, err_from_is_err_and}
 use Rattle.side_csv.specs.PrecedenceText.{NamesEdge, PrecedenceText}
-use Rattle.side_csv.specs.ScenarioFaults.{side_fault_of}
+use Rattle.side_csv.specs.RowPerJobFaults.{side_fault_of}
 use Rattle.side_csv.proofs.PrecedenceLemmas.{edges-in_range, one-precedence}
 use Rattle.side_csv.proofs.precedence.read_edges.Goals as goal
 

@@ -3,7 +3,8 @@ use Rattle.std.proofs.lemmas.List.{length-take-le, take_more}
 use Rattle.std.proofs.lemmas.Result.{err_from_is_err_and}
 use Rattle.side_csv.specs.Places.{Places}
 use Rattle.side_csv.proofs.RowLemmas.{KeepRules-push, Places-push, place-none}
-use Rattle.side_csv.proofs.ScenarioLemmas.{reached}
+use Rattle.side_csv.specs.ScenarioText.{outside_in_scenario}
+use Rattle.side_csv.proofs.OneRowFault.{reached}
 use Rattle.side_csv.proofs.scenario.find_rows.Goals as goal
 
 pub returns-in_err-no-clause-fault : goal.returns-in_err-no-clause-fault
@@ -13,7 +14,7 @@ returns-in_err-no-clause-fault c =
     let i = c.loop-i.i in
     let below : i < length rows = omega (arith, c.loop-i-test.true, c.len-i-end.ensures) in
     let row_is : c.row.result.now ≡ get_or rows i [] = c.row.ensures in
-    rw (p.1, p.2) (λ bytes reads. c.in_err-no.ensures.fault bytes (reached c.args.table.now bytes rows i below reads c.loop-i.invariant.kept) (sym row_is) (rw c.deref.ensures.value c.loop-i.invariant.places))
+    rw (p.1, p.2) (λ bytes reads. c.in_err-no.ensures.fault bytes (reached 4 (outside_in_scenario c.args.table.now) c.args.table.now bytes rows i below reads c.loop-i.invariant.kept) (sym row_is) (rw c.deref.ensures.value c.loop-i.invariant.places))
 
 pub loop-i-preserved : goal.loop-i-preserved
 loop-i-preserved c =
@@ -33,5 +34,5 @@ loop-i-preserved c =
     let more = take_more rows i [] below in
     rw (more, is_no) (record {
       places = subst (λ n. Places table (before ++ row ∷ []) (set places no (Some n))) count (Places-push table c.len.ensures.table before row places no c.loop-i.invariant.places says.names);
-      kept = KeepRules-push table before row no c.loop-i.invariant.kept says.names says.can_run free;
+      kept = KeepRules-push (outside_in_scenario table) table before row no c.loop-i.invariant.kept says.names says.inside free;
     })

@@ -1,13 +1,15 @@
 use Rattle.std.proofs.Common.{ap}
 use Rattle.std.proofs.lemmas.Result.{err_from_is_err_and}
-use Rattle.side_csv.specs.ScenarioFaults.{side_fault_of}
-use Rattle.side_csv.proofs.ScenarioLemmas.{first-csv, fits-given}
+use Rattle.side_csv.specs.RowPerJobFaults.{side_fault_of}
+use Rattle.side_csv.specs.ScenarioText.{outside_in_scenario}
+use Rattle.side_csv.proofs.OneRowFault.{first-csv}
+use Rattle.side_csv.proofs.ScenarioLemmas.{fits-given}
 use Rattle.side_csv.proofs.scenario.read_scenario.Goals as goal
 
 pub returns-in_err-rows-clause-fault : goal.returns-in_err-rows-clause-fault
 returns-in_err-rows-clause-fault c =
     let p = err_from_is_err_and c.from_residual.result c.from_residual.ensures.1 in
-    rw (p.1, p.2) (first-csv c.args.table.now c.args.bytes.now c.in_err-rows.field-0.0 c.in_err-rows.ensures.fault)
+    rw (p.1, p.2) (first-csv 4 (outside_in_scenario c.args.table.now) c.args.table.now c.args.bytes.now c.in_err-rows.field-0.0 c.in_err-rows.ensures.fault)
 
 pub returns-in_err-rows-clause-refused : goal.returns-in_err-rows-clause-refused
 returns-in_err-rows-clause-refused c =

@@ -1,8 +1,9 @@
 use Rattle.std.proofs.Common.{◌≡◌, ◌∙◌, ◌<◌, ◌+◌, ◌∷◌, [], None, Some, true, length, get_or, ap, arith, rules, length-append}
 use Rattle.std.specs.Result.{is_ok}
-use Rattle.side_csv.specs.ScenarioText.{NamesJob, cost_in, release_in}
+use Rattle.side_csv.specs.RowPerJob.{NamesJob}
+use Rattle.side_csv.specs.ScenarioText.{cost_in, release_in, values_in}
 use Rattle.side_csv.proofs.RowLemmas.{place-none, place-some}
-use Rattle.side_csv.proofs.ScenarioLemmas.{Given-push, given-contained}
+use Rattle.side_csv.proofs.ItemLemmas.{Given-push, given-contained}
 use Rattle.side_csv.proofs.scenario.values_of_jobs.Goals as goal
 
 pub returns-in_default-places-clause-fault : goal.returns-in_default-places-clause-fault
@@ -16,7 +17,7 @@ returns-in_default-places-clause-fault c bytes reads kept =
       kept = kept;
       is_job = below;
       missing = place-none c.args.table.now c.args.rows.now c.args.places.now j c.requires.places below (rw c.from.ensures at none);
-      first = given-contained c.args.table.now c.args.rows.now c.loop-j.values.items j c.loop-j.invariant.given;
+      first = given-contained values_in (0, 0) c.args.table.now c.args.rows.now c.loop-j.values.items j c.loop-j.invariant.given;
     }
 
 pub loop-j-preserved : goal.loop-j-preserved
@@ -32,7 +33,7 @@ loop-j-preserved c =
     let good : is_ok c.push.result ≡ true = search rules in
     let items = rw (good, row_is) at c.push.ensures.items in
     let names : NamesJob table (get_or rows place []) j = record { is_job = below; ids_are = at.1 } in
-    let given = Given-push table rows c.loop-j.values.items j place c.loop-j.invariant.count c.loop-j.invariant.given at.0 names in
+    let given = Given-push values_in (0, 0) table rows c.loop-j.values.items j place c.loop-j.invariant.count c.loop-j.invariant.given at.0 names in
     rw items (record {
       count = length-append c.loop-j.values.items ((release_in (get_or rows place []), cost_in (get_or rows place [])) ∷ []) ∙ ap (λ n. n + 1) c.loop-j.invariant.count;
       given = given;

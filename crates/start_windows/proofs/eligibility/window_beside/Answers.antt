@@ -31,10 +31,10 @@ loop-other-preserved c =
     let back : left f est lst (x ∷ rest) ≡ window_of est (capped (suc c.args.last) (map f (jobs_of urgent))) = ap (λ (l : List Prospect). left f est lst l) (sym here) ∙ c.loop-other.invariant.window in
     elim c.if-other-lst.branch [
       | then-other-lst+else-limit-est w ↦
-          let limit = w.ready_beside-limit.result in
+          let limit = w.ready_once-limit.result in
           let is : c.if-other-lst.lst ≡ min lst (limit - 1) = w.lst-is ∙ w.min-lst.ensures in
           let after : est < limit = omega arith in
-          let step = left-taken f est lst limit x rest w.ready_beside-limit.ensures after in
+          let step = left-taken f est lst limit x rest w.ready_once-limit.ensures after in
           record { in_order = omega (arith, is, after); window = ap (λ n. left f est n rest) is ∙ step ∙ back }
       | else-other-lst w ↦
           let late : lst < f x.job = omega (arith, w.if-other-lst.false, released, ready_beside-above table ends c.args.job x.job) in

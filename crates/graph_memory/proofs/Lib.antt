@@ -1,0 +1,6 @@
+pub mod Placements
+pub mod OfferSteps
+pub mod GraphLists
+mod HeldGraphs
+mod SpanLines
+mod Built

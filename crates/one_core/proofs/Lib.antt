@@ -1,0 +1,17 @@
+mod WorkedScenarios
+mod WorkedPeriodic
+mod RunSteps
+mod OneWindows
+mod Lists
+mod Grouping
+mod Levels
+mod Exact
+mod Walks
+mod WalkScenarios
+mod Spans
+mod Ends
+mod Reached
+mod Narrowest
+mod Numbered
+mod Overlays
+mod WalkSteps

@@ -1,0 +1,10 @@
+mod OrderLemmas
+mod EntryLemmas
+mod FirstLemmas
+mod EndLemmas
+mod WaiterLemmas
+mod SweepLemmas
+mod HeldLemmas
+mod AuditLemmas
+mod OneFirstBreak
+mod UnbrokenIsLegal

@@ -1,0 +1,5 @@
+mod Counts
+mod UnrolledTable
+mod UnrollFaults
+mod TaskLists
+mod OneTaskFault

@@ -1,0 +1,1 @@
+"""What sag-plot and sag-experiment are made of."""
