@@ -11,7 +11,7 @@ from matplotlib.lines import Line2D
 from matplotlib.patches import Patch
 
 from .fault import Fault
-from .picture import Sheet, count_of, grouped
+from .picture import Sheet, count_of, grouped, open_frame
 from .tables import STDIN, opened
 
 COLOURS = ["#0072b2", "#d55e00", "#009e73", "#cc79a7", "#e69f00", "#56b4e9", "#303030"]
@@ -88,10 +88,7 @@ def acceptance_figure(all_series):
     axes.set_ylim(-0.03, 1.03)
     axes.set_xlabel("utilization, as a share of all cores")
     axes.set_ylabel("acceptance ratio")
-    axes.grid(color="#e6e6e6", linewidth=0.6)
-    axes.set_axisbelow(True)
-    for side in ("top", "right"):
-        axes.spines[side].set_visible(False)
+    open_frame(axes)
     title = count_of(sum(series.total() for series in all_series), "task set")
     sheet.head(
         figure, f"{title}, {grouped(over)} over the budget and counted apart" if over else title, entries, columns=4

@@ -1,7 +1,7 @@
 """The picture of a graph's growth: how many states each level has, and how many edges lead to it."""
 
 from .fault import Fault
-from .picture import OK_COLOUR, Sheet, count_of, grouped, whole_axis
+from .picture import OK_COLOUR, Sheet, count_of, grouped, open_frame, whole_axis
 
 LOGARITHMIC_FROM = 100
 EDGE_COLOUR = "#d55e00"
@@ -41,9 +41,6 @@ def levels_figure(summary, window):
     axes.margins(x=0.01)
     axes.set_xlabel("level: jobs dispatched")
     axes.set_ylabel("number")
-    axes.grid(color="#e6e6e6", linewidth=0.6)
-    axes.set_axisbelow(True)
-    for side in ("top", "right"):
-        axes.spines[side].set_visible(False)
+    open_frame(axes)
     sheet.head(figure, title_of(summary, numbers, states), axes.get_legend_handles_labels()[0])
     return figure

@@ -125,12 +125,17 @@ def whole_axis(axis, ticks=10):
     axis.set_major_formatter(FuncFormatter(lambda value, _: grouped(round(value))))
 
 
+def open_frame(axes, without=("top", "right"), along="both"):
+    """No frame on these sides, and a faint grid behind what is drawn."""
+    for side in without:
+        axes.spines[side].set_visible(False)
+    axes.grid(axis=along, color="#e6e6e6", linewidth=0.6)
+    axes.set_axisbelow(True)
+
+
 def clear_frame(axes):
     """No frame but the axis below."""
-    for side in ("top", "right", "left"):
-        axes.spines[side].set_visible(False)
-    axes.grid(axis="x", color="#e6e6e6", linewidth=0.6)
-    axes.set_axisbelow(True)
+    open_frame(axes, without=("top", "right", "left"), along="x")
 
 
 def farthest(begin, end, later):
