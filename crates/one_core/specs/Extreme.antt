@@ -1,5 +1,6 @@
 -- Scenarios in which a job finishes at an end of its span, on one core without precedence.
 --     own_end end span                        that end of an interval
+--     core_free_by level from                 when the core is certainly free in a state of a level
 --     start_for table e t                     when the job of an edge starts that finishes at t
 --     settled_job table e t                   that job, with its release and its cost
 --     edge_finishing_at table level to t      the first edge into a state by which its job may finish at t

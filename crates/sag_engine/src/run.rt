@@ -122,9 +122,8 @@ fn work<F: Files, O: Sink>(
 ///
 /// The first word is the program's name, the second the command. The status is that of the first of these that applies:
 /// the words are refused; a file cannot be read, is too long or breaks a rule, in the order in which the command reads its
-/// files; `out` cannot be written; a certificate is not valid, a recorded run is
-/// not legal, or a graph exceeds its budget. A fault of `err` changes no
-/// status. Want of memory can come at any place.
+/// files; `out` cannot be written; a certificate is not valid, a recorded run is not legal, or a graph exceeds its budget. A
+/// fault of `err` changes no status. Want of memory can come at any place.
 pub fn sag_run<F: Files, O: Sink, E: Sink>(
     alloc: Global,
     words: &[String],
