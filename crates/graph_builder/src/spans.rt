@@ -1,7 +1,8 @@
 //! When jobs finish, by the edges so far.
 
-ghost use Rattle.std.specs.Prelude.{◌≡◌, ◌-◌, ◌^◌, ◌<◌, ◌++◌, [], IfOk, List, None, Some, length, slice_index_or, slice_set};
+ghost use Rattle.std.specs.Prelude.{◌≡◌, ◌<◌, ◌++◌, [], IfOk, List, None, Some, length, slice_index_or, slice_set};
 ghost use Rattle.std.specs.List.{AllByRecursion};
+ghost use Rattle.cert_text.specs.Grammar.{most_number};
 ghost use Rattle.sag_graph.specs.Spans as hulls;
 ghost use Rattle.sag_graph.specs.Spans.{edge_finish, spans_by};
 ghost use Rattle.sag_graph.specs.declared.edge.Edge.{Edge};
@@ -27,7 +28,7 @@ pub(crate) fn no_spans(alloc: Global, table: &JobTable) -> Result<Vec<Option<Spa
 
 // When the job of the edge finishes.
 fn finish(table: &JobTable, edge: &Edge) -> Span
-    requires { IsEdge table.now (2 ^ 62 - 1) edge.now }
+    requires { IsEdge table.now most_number edge.now }
     ensures { result ≡ edge_finish table.now edge.now }
 {
     let _count = table.len();
@@ -57,11 +58,11 @@ fn widen_span(spans: &mut Vec<Option<Span>>, job: JobNo, finish: Span)
 
 /// Widens the spans by these edges.
 pub(crate) fn widen(table: &JobTable, spans: &mut Vec<Option<Span>>, edges: &[Edge])
-    requires edges { AreEdges table.now (2 ^ 62 - 1) edges.now }
+    requires edges { AreEdges table.now most_number edges.now }
     requires count { length spans.old.items ≡ length table.now.jobs }
-    requires fit { AllByRecursion (IsSpanUpTo (2 ^ 62 - 1)) spans.old.items }
+    requires fit { AllByRecursion (IsSpanUpTo most_number) spans.old.items }
     ensures widened { (before : List Edge) → spans.old.items ≡ spans_by table.now before → spans.new.items ≡ spans_by table.now (before ++ edges.now) }
-    ensures fit { AllByRecursion (IsSpanUpTo (2 ^ 62 - 1)) spans.new.items }
+    ensures fit { AllByRecursion (IsSpanUpTo most_number) spans.new.items }
 {
     for i in 0..edges.len() {
         let edge = &edges[i];

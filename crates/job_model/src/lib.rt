@@ -27,6 +27,8 @@ pub use interval_end::End;
 pub use job_row::Job;
 pub use job_sets::JobNo;
 pub use laws::ranks_order_jobs;
-pub use limits::{MOST_ARRIVAL, MOST_CORES, MOST_COST, MOST_EDGES, MOST_JOBS};
+pub use limits::{
+    Column, MOST_ARRIVAL, MOST_CORES, MOST_COST, MOST_EDGES, MOST_JOBS, MOST_START, first_above,
+};
 pub use scenario::Scenario;
 pub use table::JobTable;

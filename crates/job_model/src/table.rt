@@ -9,10 +9,10 @@ ghost use Rattle.job_model.specs.Ranks.{rank_of};
 ghost use Rattle.job_model.specs.Releases.{IsReleaseOrder, release_order};
 ghost use Rattle.job_model.specs.TableFaults.{FirstTableFault, ReachedJobRow};
 ghost use Rattle.job_model.specs.Times.{MayCost, with_times};
-ghost use Rattle.job_model.specs.TableFaults.{first_above as above};
 
 use crate::edge_rows::edges_of_rows;
 use crate::edges::Edges;
+use crate::limits::first_above;
 use crate::ranks::ranks;
 use crate::release_order::release_order;
 use crate::{EdgeFault, Job, JobNo, MOST_ARRIVAL, MOST_COST, MOST_JOBS, TableFault};
@@ -46,17 +46,6 @@ impl Model for JobTable {
         × (t.ids.keys ≡ map id_of t.jobs.items)
         × (t.by_release.items ≡ release_order (record { jobs = t.jobs.items; edges = t.edges }))
         × AreRanks (record { jobs = t.jobs.items; edges = t.edges }) t.ranks.items };
-}
-
-// A column with its number and the greatest number that may stand there.
-type Column = (u8, u64, u64);
-
-// The leftmost column in which more stands than may.
-fn first_above(columns: &[Column]) -> Option<u8>
-    ensures { result ≡ above columns.now }
-{
-    let (column, _, _) = columns.iter().find(|(_, number, most)| number > most)?;
-    Some(*column)
 }
 
 // Whether the row by itself keeps the rules.

@@ -1,6 +1,6 @@
 ghost use Rattle.std.specs.Prelude.{◌≡◌, length};
 
-use crate::{Job, JobNo, JobTable, Scenario, TableFault, ranks_order_jobs};
+use crate::{Job, JobNo, JobTable, Scenario, TableFault, first_above, ranks_order_jobs};
 use std::alloc::Global;
 
 // Two jobs, of which the less urgent may block.
@@ -138,6 +138,7 @@ fn fault_of(alloc: Global, rows: &[Job]) -> Option<TableFault> {
 
 #[test]
 fn names_the_first_broken_rule(rt: HostRuntime) {
+    assert_eq!(rt; first_above(&[(3, 7, 7), (4, 8, 7), (5, 9, 7)]), Some(4));
     let [first, second] = jobs();
     let free = Job { cmin: 0, ..second };
     let dear = Job { cmin: 4, ..second };

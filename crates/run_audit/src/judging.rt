@@ -1,7 +1,8 @@
 //! The first rule that a schedule breaks, found rule by rule.
 
-ghost use Rattle.std.specs.Prelude.{◌≡◌, ◌^◌, ◌-◌, ◌<◌, ◌≤◌, IfOk, ℕ, length};
+ghost use Rattle.std.specs.Prelude.{◌≡◌, ◌<◌, ◌≤◌, IfOk, ℕ, length};
 ghost use Rattle.job_model.specs.Scenario.{Fits};
+ghost use Rattle.job_model.specs.declared.limits.TheConstants.{MOST_START};
 ghost use Rattle.run_meaning.specs.Ready.{start_of};
 ghost use Rattle.run_audit.specs.Entries.{core_at, ready_at, start_at};
 ghost use Rattle.run_audit.specs.Breaks.{FindsBreak, FindsWait};
@@ -90,7 +91,7 @@ pub fn audit(
     requires few_cores { cores ≤ MOST_CORES }
     requires fits { Fits table.now scenario.now }
     requires places { length schedule.now ≡ length table.now.jobs }
-    requires starts { (j : ℕ) → j < length table.now.jobs → start_of schedule.now j ≤ 2 ^ 62 - 1 }
+    requires starts { (j : ℕ) → j < length table.now.jobs → start_of schedule.now j ≤ MOST_START }
     ensures { IfOk result (Audits table.now cores scenario.now schedule.now) }
 {
     ranks_order_jobs();

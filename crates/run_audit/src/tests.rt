@@ -1,13 +1,10 @@
 ghost use Rattle.std.specs.Prelude.{◌≡◌, [], ◌∷◌, IfSome};
 
 use crate::{audit, broken_text};
-use job_model::{JobTable, Scenario};
+use job_model::{JobTable, MOST_START, Scenario};
 use run_meaning::{Place, Schedule};
 use small_tables::{NotATable, blocking, build_table};
 use std::alloc::Global;
-
-// The latest start that an audit takes.
-const MOST_START: u64 = 4_611_686_018_427_387_903;
 
 // A job with its start and its core.
 type Start = (u64, u16);

@@ -18,7 +18,7 @@ use Rattle.run_meaning.specs.declared.places.Place.{Place}
 use Rattle.run_meaning.specs.Laws.{StartsAgree}
 use Rattle.run_meaning.specs.Legal.{Legal}
 use Rattle.run_meaning.specs.Ready.{start_of}
-use Rattle.side_csv.specs.declared.run.TheConstants.{MOST_START}
+use Rattle.job_model.specs.declared.limits.TheConstants.{MOST_START}
 use Rattle.side_csv.specs.Laws.{OneRecordedRun, OneRunFault, RunsKeepRules}
 use Rattle.sag_engine.specs.declared.conclusion.Conclusion.{Conclusion}
 use Rattle.sag_engine.specs.declared.fetch.TheConstants.{MOST_FILE_BYTES}

@@ -23,7 +23,7 @@ use Rattle.run_audit.specs.AnswerTexts.{broken_text, legal_text}
 use Rattle.run_audit.specs.FirstBreak.{Audits}
 use Rattle.side_csv.specs.declared.fault.SideFault.{SideFault}
 use Rattle.side_csv.specs.declared.fault.SideFault.TheVariants as side
-use Rattle.side_csv.specs.declared.run.TheConstants.{MOST_START}
+use Rattle.job_model.specs.declared.limits.TheConstants.{MOST_START}
 use Rattle.side_csv.specs.RunFaults.{FirstRunFault}
 use Rattle.side_csv.specs.RunText.{RunText}
 use Rattle.sag_engine.specs.declared.conclusion.Conclusion.TheVariants.{Done, No}

@@ -6,7 +6,8 @@ use Rattle.job_model.specs.Scenario.{cost_of}
 use Rattle.job_model.specs.Table.{IsTable, Table}
 use Rattle.run_meaning.specs.declared.places.Place.{Place}
 use Rattle.run_meaning.specs.Ready.{no_place, start_of}
-use Rattle.side_csv.specs.declared.run.TheConstants.{MOST_CORE, MOST_START}
+use Rattle.job_model.specs.declared.limits.TheConstants.{MOST_START}
+use Rattle.side_csv.specs.declared.run.TheConstants.{MOST_CORE}
 use Rattle.side_csv.specs.RowPerJob.{IsGood, KeepRules}
 use Rattle.side_csv.specs.RunText.{core_in, finish_in, outside_in_run, place_in, start_in}
 use Rattle.side_csv.proofs.ItemLemmas.{Given}

@@ -9,7 +9,8 @@ use Rattle.job_model.specs.Table.{Table}
 use Rattle.run_meaning.specs.declared.places.Place.{Place}
 use Rattle.run_meaning.specs.Ready.{no_place}
 use Rattle.side_csv.specs.RowPerJob.{GivesEach}
-use Rattle.side_csv.specs.declared.run.TheConstants.{MOST_START, MOST_CORE}
+use Rattle.job_model.specs.declared.limits.TheConstants.{MOST_START}
+use Rattle.side_csv.specs.declared.run.TheConstants.{MOST_CORE}
 
 abbrev pub start_in : List ℕ → ℕ
 start_in row = slice_index row 2

@@ -18,6 +18,6 @@ pub use laws::{
     one_scenario_fault, precedence_keeps_rules, runs_keep_rules, scenarios_keep_rules,
 };
 pub use precedence::read_edges;
-pub use run::{MOST_CORE, MOST_START, read_run};
+pub use run::{MOST_CORE, read_run};
 pub use scenario::read_scenario;
 pub use write::write_scenario;

@@ -3,7 +3,7 @@
 ghost use Rattle.std.specs.Prelude.{◌≡◌, ◌≢◌, ◌<◌, ◌≤◌, ℕ, All, Any, IfErr, IfOk, List, None, OnOk, length, slice_index_or};
 ghost use Rattle.std.specs.Option.{ForSome};
 ghost use Rattle.csv_numbers.specs.Rows.{Rows};
-ghost use Rattle.job_model.specs.declared.limits.TheConstants.{MOST_COST};
+ghost use Rattle.job_model.specs.declared.limits.TheConstants.{MOST_COST, MOST_START};
 ghost use Rattle.job_model.specs.Scenario.{Fits, cost_of};
 ghost use Rattle.job_model.specs.Table.{IsTable};
 ghost use Rattle.run_meaning.specs.declared.places.Place.{Place};
@@ -18,12 +18,9 @@ use crate::SideFault;
 use crate::laws::{one_recorded_run, runs_keep_rules};
 use crate::row_per_job::job_of_row;
 use csv_numbers::{NumberRows, read_numbers};
-use job_model::{JobNo, JobTable, Scenario};
+use job_model::{JobNo, JobTable, MOST_START, Scenario};
 use run_meaning::{Place, Schedule};
 use std::alloc::Global;
-
-/// The latest start that is read.
-pub const MOST_START: u64 = (1 << 62) - 1;
 
 /// The greatest number of a core that is read.
 pub const MOST_CORE: u64 = 65_535;

@@ -11,7 +11,7 @@ use crate::laws::tasks_keep_rules;
 use crate::{MOST_TASK_TIME, Task, TaskFault};
 use csv_numbers::{NumberRows, read_numbers};
 use indexmap::IndexSet;
-use job_model::MOST_COST;
+use job_model::{MOST_COST, first_above};
 use std::alloc::{AllocError, Global};
 
 // The columns of a task file.
@@ -37,22 +37,6 @@ fn tasks_of_rows(alloc: Global, rows: &NumberRows) -> Result<Vec<Task>, AllocErr
     Ok(tasks)
 }
 
-// The leftmost column in which more stands than may.
-fn column_above_limit(task: &Task) -> Option<u8>
-    ensures { result ≡ first_above (task_limits task.now) }
-{
-    let columns = [
-        (2, task.period, MOST_TASK_TIME),
-        (3, task.offset, MOST_TASK_TIME),
-        (4, task.jitter, MOST_TASK_TIME),
-        (5, task.cmin, MOST_COST),
-        (6, task.cmax, MOST_COST),
-        (7, task.deadline, MOST_TASK_TIME),
-    ];
-    let (column, _, _) = columns.iter().find(|(_, number, most)| number > most)?;
-    Some(*column)
-}
-
 // Whether the task by itself keeps the rules.
 fn is_task(task: &Task) -> bool
     ensures { IsTrue result ↔ IsTask task.now }
@@ -76,7 +60,15 @@ fn check_task(row: u64, task: &Task) -> Result<(), TaskFault>
     if is_task(task) {
         return Ok(());
     }
-    if let Some(column) = column_above_limit(task) {
+    let columns = [
+        (2, task.period, MOST_TASK_TIME),
+        (3, task.offset, MOST_TASK_TIME),
+        (4, task.jitter, MOST_TASK_TIME),
+        (5, task.cmin, MOST_COST),
+        (6, task.cmax, MOST_COST),
+        (7, task.deadline, MOST_TASK_TIME),
+    ];
+    if let Some(column) = first_above(&columns) {
         return Err(TaskFault::OverLimit(row, column));
     }
     if task.period == 0 {
