@@ -21,7 +21,8 @@ use Rattle.graph_builder.specs.declared.fault.LevelFault.{LevelFault}
 use Rattle.graph_builder.specs.declared.fault.LevelFault.TheVariants as fault
 use Rattle.graph_builder.specs.declared.filling.Purse.{Purse}
 use Rattle.graph_builder.specs.Fit.{AreEdges, AreReady, IsEdge, IsReady}
-use Rattle.graph_builder.specs.Filling.{FitsBudget, IsDraft, IsOver, IsOverWith, before_of, completed, first_over, no_level, offer_by, offers_from, totals, with_offer}
+use Rattle.sag_step.specs.Offers.{offer_by, offers_from}
+use Rattle.graph_builder.specs.Filling.{FitsBudget, IsDraft, IsOver, IsOverWith, before_of, completed, first_over, no_level, totals, with_offer}
 use Rattle.graph_builder.proofs.FitLemmas.{edges-push, ready-absorbed, ready-appended}
 
 -- ---- what the offers that are left make

@@ -12,13 +12,9 @@
 --     FitsBudget purse level            there is no more than the budget allows
 --     IsOverWith purse level fault      there is more, and the fault tells how much
 --     IsOver over fault                 the fault tells where the budget is spent
-use Rattle.std.specs.Prelude.{◌≡◌, ℕ, true, ◌+◌, ◌*◌, ◌≤◌, List, [], ◌∷◌, ◌++◌, drop, fold, length, map, find, Option, Some}
-use Rattle.std.specs.List.{enumerate_from, flat_map}
+use Rattle.std.specs.Prelude.{◌≡◌, ℕ, true, ◌+◌, ◌*◌, ◌≤◌, List, [], ◌∷◌, ◌++◌, fold, length, map, find, Option, Some}
 use Rattle.job_model.specs.Table.{Table}
-use Rattle.start_windows.specs.declared.StartWindow.{StartWindow}
-use Rattle.sag_step.specs.State.{SystemState}
-use Rattle.sag_step.specs.Next.{next}
-use Rattle.sag_step.specs.Group.{Offer, offers_of, placed, place_of}
+use Rattle.sag_step.specs.Group.{Offer, placed, place_of}
 use Rattle.sag_graph.specs.Levels.{Level, edge_to, edges_into}
 use Rattle.sag_graph.specs.Budget.{Spending, exceeds, spendings_into}
 use Rattle.sag_graph.specs.declared.TheConstants.{MOST_BUDGET}
@@ -27,14 +23,6 @@ use Rattle.graph_builder.specs.declared.filling.Purse.{Purse}
 use Rattle.graph_builder.specs.declared.fault.LevelFault.{LevelFault}
 use Rattle.graph_builder.specs.declared.fault.LevelFault.TheVariants as fault
 use Rattle.graph_builder.specs.Fit.{AreReady, AreEdges}
-
--- the offer of state number `from` by a job in its window
-abbrev pub offer_by : Table → ℕ → SystemState → ℕ × StartWindow → Offer
-offer_by table from s w = record { from = from; job = w.0; window = w.1; next = next table s w.0 w.1 }
-
--- the offers of the states from number i on
-unfoldable pub offers_from : Table → List SystemState → ℕ → List Offer
-offers_from table level i = flat_map (offers_of table) (enumerate_from i (drop i level))
 
 -- The offer is placed, and its edge leads to the state that took it.
 unfoldable pub with_offer : Level → Offer → Level

@@ -10,7 +10,8 @@ ghost use Rattle.start_windows.specs.Eligible.{eligible_windows};
 ghost use Rattle.sag_step.specs.State.{states_of};
 ghost use Rattle.sag_graph.specs.Budget as budgets;
 ghost use Rattle.sag_graph.specs.Levels.{next_level};
-ghost use Rattle.graph_builder.specs.Filling.{FitsBudget, IsDraft, IsOver, IsOverWith, before_of, completed, first_over, level_of, no_level, offer_by, with_offer};
+ghost use Rattle.sag_step.specs.Offers.{offer_by};
+ghost use Rattle.graph_builder.specs.Filling.{FitsBudget, IsDraft, IsOver, IsOverWith, before_of, completed, first_over, level_of, no_level, with_offer};
 ghost use Rattle.graph_builder.specs.Fit.{AreReady, IsReady, IsScratch, most_at};
 
 use crate::LevelFault;

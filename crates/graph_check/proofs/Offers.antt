@@ -13,10 +13,10 @@ use Rattle.sag_step.specs.State.{SystemState, HeldState, first_core, state_windo
 use Rattle.sag_step.specs.Next.{next}
 use Rattle.sag_step.specs.Shape.{IsState}
 use Rattle.sag_step.specs.Widen.{widens}
-use Rattle.sag_step.specs.Offers.{Offer, offers, offers_of}
+use Rattle.sag_step.specs.Offers.{Offer, offers, offers_of, offer_by, offers_from}
 use Rattle.start_windows.proofs.WindowFacts.{IsWindow-from}
 use Rattle.graph_check.specs.declared.level_state.LevelState.{LevelState}
-use Rattle.graph_check.specs.Turns.{IsFit, IsLevelState, IsStart, AreFit, HeldTurns, StandsAt, offer_at, offer_by, offers_from, offers_left, states_of, turn_of, windows_at}
+use Rattle.graph_check.specs.Turns.{IsFit, IsLevelState, IsStart, AreFit, HeldTurns, StandsAt, offer_at, offers_left, states_of, turn_of, windows_at}
 use Rattle.lists.proofs.Elements.{drop-at}
 
 -- ---- places of lists

@@ -8,16 +8,15 @@
 --     IsStart                      a job of the table, and a window in order
 --     StandsAt                     what is kept: the windows of the state whose turn it is, and the place among them
 use Rattle.std.specs.Prelude.{◌≡◌, ℕ, ◌+◌, ◌<◌, ◌≤◌, List, [], ◌++◌, drop, length, map, slice_get, Option}
-use Rattle.std.specs.List.{enumerate_from, flat_map, AllByRecursion}
+use Rattle.std.specs.List.{AllByRecursion}
 use Rattle.std.specs.Option.{option_map_or}
 use Rattle.job_model.specs.Table.{Table}
 use Rattle.start_windows.specs.declared.StartWindow.{StartWindow}
 use Rattle.start_windows.specs.Eligible.{IsFront, eligible_windows}
 use Rattle.sag_step.specs.declared.TheConstants.{MOST_STEP_TIME}
 use Rattle.sag_step.specs.State.{SystemState, first_core}
-use Rattle.sag_step.specs.Next.{next}
 use Rattle.sag_step.specs.Shape.{IsState, IsUpTo}
-use Rattle.sag_step.specs.Offers.{Offer, offers, offers_of}
+use Rattle.sag_step.specs.Offers.{Offer, offer_by, offers, offers_from}
 use Rattle.graph_check.specs.declared.level_state.LevelState.{LevelState}
 use Rattle.graph_check.specs.declared.turn.Turn.{Turn}
 
@@ -61,17 +60,9 @@ pub record IsStart (table : Table) (job : ℕ) (window : StartWindow) : Type 0 w
 
 -- ---- what is kept
 
--- the offer of state number `from` by a job in its window
-abbrev pub offer_by : Table → ℕ → SystemState → ℕ × StartWindow → Offer
-offer_by table from state w = record { from = from; job = w.0; window = w.1; next = next table state w.0 w.1 }
-
 -- each job that may be the next in the state of that number, with its window
 unfoldable pub windows_at : Table → List SystemState → ℕ → List (ℕ × StartWindow)
 windows_at table level at = option_map_or (λ s. eligible_windows table s.set.members s.ends (first_core s)) (slice_get level at) []
-
--- the offers of the states from that number on
-abbrev pub offers_from : Table → List SystemState → ℕ → List Offer
-offers_from table level at = flat_map (offers_of table) (enumerate_from at (drop at level))
 
 -- the offers of the state of that number by these windows, and then those of all later states
 unfoldable pub offers_left : Table → List SystemState → ℕ → List (ℕ × StartWindow) → List Offer

@@ -42,13 +42,13 @@ state size members low high ends last = record {
 }
 
 -- the offers of so many levels, of which the first is given
-abbrev offers_from : Table → ℕ → List SystemState → List Offer
-offers_from table zero level = []
-offers_from table (suc n) level = offers table level ++ offers_from table n (group (offers table level))
+abbrev offers_of_levels : Table → ℕ → List SystemState → List Offer
+offers_of_levels table zero level = []
+offers_of_levels table (suc n) level = offers table level ++ offers_of_levels table n (group (offers table level))
 
 -- when job j may finish, by each edge of the graph
 abbrev finishes : Table → ℕ → ℕ → List Interval
-finishes table m j = map (λ o. finish_interval table j o.window) (filter (λ o. o.job == j) (offers_from table (length table.jobs) (root table m ∷ [])))
+finishes table m j = map (λ o. finish_interval table j o.window) (filter (λ o. o.job == j) (offers_of_levels table (length table.jobs) (root table m ∷ [])))
 
 -- from when on it may finish, and until when, by all edges
 abbrev bounds : Table → ℕ → ℕ → Interval

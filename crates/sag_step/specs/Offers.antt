@@ -2,8 +2,10 @@
 -- Nasri, Nelissen and Brandenburg, ECRTS 2018 and 2019) the expansion phase: each eligible job of each state gives an edge.
 --     Offer                       a state's next state by an eligible job
 --     offers_of table s           the offers of one state, with its number
+--     offer_by table from s w     the offer of state number `from` by a job in its window
 --     offers table level          those of all states, by rising (state number, job)
-use Rattle.std.specs.Prelude.{ℕ, List, length, filter_map, flat_map, option_map}
+--     offers_from table level i   those of the states from number i on
+use Rattle.std.specs.Prelude.{ℕ, List, drop, length, filter_map, flat_map, option_map}
 use Rattle.std.specs.List.{enumerate_from}
 use Rattle.lists.specs.Numbers.{numbers_below}
 use Rattle.job_model.specs.Table.{Table}
@@ -18,6 +20,10 @@ pub record Offer : Type 0 where
   pub window : StartWindow
   pub next : SystemState
 
+-- the offer of state number `from` by a job in its window
+abbrev pub offer_by : Table → ℕ → SystemState → ℕ × StartWindow → Offer
+offer_by table from s w = record { from = from; job = w.0; window = w.1; next = next table s w.0 w.1 }
+
 -- the offers of one state, by rising job number
 abbrev pub offers_of : Table → ℕ × SystemState → List Offer
 offers_of table s =
@@ -27,3 +33,7 @@ offers_of table s =
 -- the offers of all states of a level, by rising (state number, job)
 abbrev pub offers : Table → List SystemState → List Offer
 offers table level = flat_map (offers_of table) (enumerate_from 0 level)
+
+-- the offers of the states from number i on
+abbrev pub offers_from : Table → List SystemState → ℕ → List Offer
+offers_from table level i = flat_map (offers_of table) (enumerate_from i (drop i level))

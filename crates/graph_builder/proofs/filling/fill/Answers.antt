@@ -8,7 +8,8 @@ use Rattle.std.proofs.lemmas.List.{length-map}
 use Rattle.sag_step.specs.State.{HeldState}
 use Rattle.sag_step.specs.State.{states_of}
 use Rattle.graph_builder.specs.Fit.{most_at}
-use Rattle.graph_builder.specs.Filling.{FitsBudget, before_of, completed, first_over, level_of, no_level, offers_from}
+use Rattle.sag_step.specs.Offers.{offers_from}
+use Rattle.graph_builder.specs.Filling.{FitsBudget, before_of, completed, first_over, level_of, no_level}
 use Rattle.graph_builder.proofs.FitLemmas.{ready-at}
 use Rattle.graph_builder.proofs.FillLemmas.{made-state, made-whole, offers-first, over-state, over-whole, told-state}
 use Rattle.graph_builder.proofs.filling.fill.Goals as goal

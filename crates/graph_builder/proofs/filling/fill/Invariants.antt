@@ -1,7 +1,8 @@
 use Rattle.std.proofs.Common.{◌≡◌, ◌+◌}
 use Rattle.sag_step.specs.Group.{offers}
 use Rattle.sag_step.specs.State.{states_of}
-use Rattle.graph_builder.specs.Filling.{FitsBudget, IsDraft, before_of, completed, first_over, level_of, no_level, offers_from}
+use Rattle.sag_step.specs.Offers.{offers_from}
+use Rattle.graph_builder.specs.Filling.{FitsBudget, IsDraft, before_of, completed, first_over, level_of, no_level}
 use Rattle.graph_builder.specs.Fit.{IsScratch, most_at}
 use Rattle.graph_builder.proofs.filling.fill.Given as goal
 

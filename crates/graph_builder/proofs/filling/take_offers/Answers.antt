@@ -5,7 +5,8 @@ use Rattle.std.proofs.lemmas.Result.{err_from_is_err_and}
 use Rattle.lists.specs.Numbers.{numbers_below}
 use Rattle.start_windows.specs.declared.StartWindow.{StartWindow}
 use Rattle.sag_step.specs.State.{state_window}
-use Rattle.graph_builder.specs.Filling.{before_of, level_of, offer_by, with_offer, IsOverWith}
+use Rattle.sag_step.specs.Offers.{offer_by}
+use Rattle.graph_builder.specs.Filling.{before_of, level_of, with_offer, IsOverWith}
 use Rattle.graph_builder.proofs.FillLemmas.{made-all, made-one, not-over, over-never, over-not, over-told, window-of}
 use Rattle.graph_builder.proofs.filling.take_offers.Goals as goal
 
