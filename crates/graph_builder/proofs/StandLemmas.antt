@@ -23,7 +23,7 @@ use Rattle.graph_builder.specs.Fit.{AreEdges, AreReady, IsEdge, most_at}
 use Rattle.graph_builder.specs.Filling.{FitsBudget, IsDraft, IsOver, before_of, first_over, level_of, no_level}
 use Rattle.graph_builder.proofs.FitLemmas.{most-few}
 use Rattle.graph_builder.proofs.SpanLemmas.{spans-length}
-use Rattle.graph_builder.specs.Standing.{IsSpentAfter, IsStanding, Standing, purse_of, standing_at}
+use Rattle.graph_builder.specs.Standing.{IsSpentAfter, IsStanding, Standing, purse_of, builder_at}
 
 -- the totals after the offers of a level, as a builder counts them
 pub over-at : (table : Table) (m budget k : ℕ) →
@@ -96,12 +96,12 @@ unfolding edges_up_to
 up_to-next table m k = ap (edges_up_to table m) (add-one k) ∙ ap (λ n. edges_up_to table m k ++ (level_at table m n).edges) (sym (add-one k))
 
 -- At level 0 there is the root alone.
-pub first-standing : (table : Table) (m budget : ℕ) → standing_at table m budget 0
+pub first-standing : (table : Table) (m budget : ℕ) → builder_at table m budget 0
     ≡ record { table = table; cores = m; budget = budget; level = 0; states = root table m ∷ []; edges = []; spans = spans_by table []; state_total = 1; edge_total = 0 }
 unfolding level_at edges_up_to state_total edge_total
 first-standing table m budget = refl
 
-pub first-stands : (table : Table) (m budget : ℕ) → IsTable table → 1 ≤ m → m ≤ MOST_CORES → 1 ≤ budget → IsStanding (standing_at table m budget 0)
+pub first-stands : (table : Table) (m budget : ℕ) → IsTable table → 1 ≤ m → m ≤ MOST_CORES → 1 ≤ budget → IsStanding (builder_at table m budget 0)
 unfolding level_at edges_up_to state_total edge_total
 first-stands table m budget is_table cores few some = record {
   is_table = is_table;
@@ -174,7 +174,7 @@ module _ (s : Standing) (stands : IsStanding s) where
     }
 
     module _ (spans : List (Option Interval)) (spans-is : spans ≡ spans_by s.table (edges_up_to s.table s.cores s.level ++ level.edges)) where
-      pub is-up : one-up spans ≡ standing_at s.table s.cores s.budget (s.level + 1)
+      pub is-up : one-up spans ≡ builder_at s.table s.cores s.budget (s.level + 1)
       is-up =
           let states : s.state_total + length level.states ≡ state_total s.table s.cores (s.level + 1) =
           ap (λ n. n + length level.states) (ap (λ (t : Standing). t.state_total) stands.of_graph)
@@ -286,10 +286,10 @@ module _ (s now : Standing) (is : s ≡ now) (stands : IsStanding s) (draft : Dr
     went-stands =
         subst IsStanding (sym same) (stands-up s stands (level_of draft) next-draft.made spans own-spans next-draft.level next-draft.within next-draft.fits)
 
-    pub went-is : went-up ≡ standing_at now.table now.cores now.budget (now.level + 1)
+    pub went-is : went-up ≡ builder_at now.table now.cores now.budget (now.level + 1)
     went-is =
         same ∙ is-up s stands (level_of draft) next-draft.made spans own-spans
-        ∙ ap (λ (t : Standing). standing_at t.table t.cores t.budget (t.level + 1)) is
+        ∙ ap (λ (t : Standing). builder_at t.table t.cores t.budget (t.level + 1)) is
 
 -- ---- level 0 in memory
 
@@ -306,7 +306,7 @@ stand-few s stands =
 
 -- the one state of level 0, seen by its parts
 pub first-is : (table : Table) (m budget : ℕ) (states : List SystemState) (edges : List Edge) (spans : List (Option Interval)) → states ≡ root table m ∷ [] → edges ≡ [] → spans ≡ spans_by table [] →
-    record { table = table; cores = m; budget = budget; level = 0; states = states; edges = edges; spans = spans; state_total = 1; edge_total = 0 } ≡ standing_at table m budget 0
+    record { table = table; cores = m; budget = budget; level = 0; states = states; edges = edges; spans = spans; state_total = 1; edge_total = 0 } ≡ builder_at table m budget 0
 first-is table m budget states edges spans states-is edges-is spans-is =
     (λ i. record { table = table; cores = m; budget = budget; level = 0; states = states-is i; edges = edges-is i; spans = spans-is i; state_total = 1; edge_total = 0 })
     ∙ sym (first-standing table m budget)

@@ -1,6 +1,6 @@
 -- A builder of levels.
 --     Standing                  what contracts see of it
---     standing_at table m budget k     at level k of the graph of the table
+--     builder_at table m budget k   at level k of the graph of the table
 --     purse_of s                the budget, and what the levels so far take
 --     IsStanding s              it stands at a level of the graph, and the budget was not exceeded so far
 --     IsSpentAfter s fault      the budget is spent at an offer that leads to the next level
@@ -31,8 +31,8 @@ pub record Standing : Type 0 where
   pub edge_total : ℕ
 
 -- at level k of the graph of the table
-abbrev pub standing_at : Table → ℕ → ℕ → ℕ → Standing
-standing_at table m budget k = record {
+abbrev pub builder_at : Table → ℕ → ℕ → ℕ → Standing
+builder_at table m budget k = record {
   table = table;
   cores = m;
   budget = budget;
@@ -54,7 +54,7 @@ pub record IsStanding (s : Standing) : Type 0 where
   pub some_core : 1 ≤ s.cores
   pub few_cores : s.cores ≤ MOST_CORES
   pub is_level : s.level ≤ length s.table.jobs
-  pub of_graph : s ≡ standing_at s.table s.cores s.budget s.level
+  pub of_graph : s ≡ builder_at s.table s.cores s.budget s.level
   pub few_states : s.state_total ≤ s.budget
   pub few_edges : s.edge_total ≤ 16 * s.budget
   pub within : (k : ℕ) → k < s.level → find (exceeds s.budget) (spendings_at s.table s.cores k) ≡ None

@@ -11,7 +11,7 @@ ghost use Rattle.cert_text.specs.Spelling.{line_text};
 ghost use Rattle.job_model.specs.declared.limits.TheConstants.{MOST_CORES};
 ghost use Rattle.graph_builder.specs.Filling.{FitsBudget, IsDraft, before_of, first_over, level_of, no_level};
 ghost use Rattle.graph_builder.specs.Fit.{most_at};
-ghost use Rattle.graph_builder.specs.Standing.{IsSpentAfter, IsStanding, purse_of, standing_at};
+ghost use Rattle.graph_builder.specs.Standing.{IsSpentAfter, IsStanding, purse_of, builder_at};
 ghost use Rattle.sag_graph.specs.declared.TheConstants.{MOST_BUDGET};
 
 use crate::draft::Draft;
@@ -112,7 +112,7 @@ impl<'a> LevelBuilder<'a> {
         requires few_cores { cores ≤ MOST_CORES }
         requires some_budget { 1 ≤ budget }
         requires few { budget ≤ MOST_BUDGET }
-        ensures { IfOk result (λ b. b ≡ standing_at table.now cores budget 0) }
+        ensures { IfOk result (λ b. b ≡ builder_at table.now cores budget 0) }
     {
         let _count = table.len();
         root_is_shaped();
@@ -221,7 +221,7 @@ impl<'a> LevelBuilder<'a> {
         requires draft { IsDraft self.old.table self.old.cores (most_at (self.old.level + 1)) draft }
         requires fits { FitsBudget (purse_of self.old) (level_of draft) }
         requires within { first_over self.old.budget (before_of (purse_of self.old)) no_level (offers self.old.table self.old.states) ≡ None }
-        ensures up { self.new ≡ standing_at self.old.table self.old.cores self.old.budget (self.old.level + 1) }
+        ensures up { self.new ≡ builder_at self.old.table self.old.cores self.old.budget (self.old.level + 1) }
         ensures standing { IsStanding self.new }
     {
         let Draft {
@@ -242,7 +242,7 @@ impl<'a> LevelBuilder<'a> {
     /// the budget is spent, or there is no memory, it stays as it was.
     pub fn next_level(&mut self) -> Result<bool, LevelFault>
         ensures up { IfOk result (λ went. self.new
-            ≡ (if went then standing_at self.old.table self.old.cores self.old.budget (self.old.level + 1) else self.old)) }
+            ≡ (if went then builder_at self.old.table self.old.cores self.old.budget (self.old.level + 1) else self.old)) }
         ensures last { IfOk result (λ went. IsTrue went ↔ (self.old.level < length self.old.table.jobs)) }
         ensures spent { IfErr result (IsSpentAfter self.old) }
         ensures failed { OnErr result (self.new ≡ self.old) }

@@ -16,7 +16,7 @@ use Rattle.sag_step.specs.Widen.{widens}
 use Rattle.sag_step.specs.Offers.{Offer, offers, offers_of, offer_by, offers_from}
 use Rattle.start_windows.proofs.WindowFacts.{IsWindow-from}
 use Rattle.graph_check.specs.declared.level_state.LevelState.{LevelState}
-use Rattle.graph_check.specs.Turns.{IsFit, IsLevelState, IsStart, AreFit, HeldTurns, StandsAt, offer_at, offers_left, states_of, turn_of, windows_at}
+use Rattle.graph_check.specs.Turns.{IsFit, IsLevelState, IsStart, AreFit, HeldTurns, StandsAt, offer_at, offers_left, level_states, turn_of, windows_at}
 use Rattle.lists.proofs.Elements.{drop-at}
 
 -- ---- places of lists
@@ -214,11 +214,11 @@ module _ (turns : HeldTurns) (at : ℕ) (windows : List (ℕ × StartWindow)) (p
 -- ---- states in memory
 
 -- what an index gives of the states
-pub state-at : (held : List LevelState) (at : ℕ) (x : LevelState) → at < length held → x ≡ get_or held at x → slice_get (states_of held) at ≡ Some x.state.state
+pub state-at : (held : List LevelState) (at : ℕ) (x : LevelState) → at < length held → x ≡ get_or held at x → slice_get (level_states held) at ≡ Some x.state.state
 state-at held at x lt is =
     slice_get-map (λ (h : LevelState). h.state.state) held at ∙ ap (option_map (λ (h : LevelState). h.state.state)) (slice_get_read held (length held) at x refl lt is)
 
-pub state-past : (held : List LevelState) (at : ℕ) → length held ≤ at → slice_get (states_of held) at ≡ None
+pub state-past : (held : List LevelState) (at : ℕ) → length held ≤ at → slice_get (level_states held) at ≡ None
 state-past held at past =
     slice_get-map (λ (h : LevelState). h.state.state) held at ∙ ap (option_map (λ (h : LevelState). h.state.state)) (slice_get_past held at past)
 
@@ -230,7 +230,7 @@ pub record IsSource (table : Table) (m : ℕ) (level : List SystemState) (at : �
   pub some : 0 < length held.state.state.low
 
 pub source-at : (table : Table) (m : ℕ) (held : List LevelState) (at : ℕ) (x : LevelState) → AreFit table m held → at < length held → x ≡ get_or held at x →
-    IsSource table m (states_of held) at x
+    IsSource table m (level_states held) at x
 source-at table m held at x fit lt is =
     let here = state-at held at x lt is in
     let level_state = fit-at table m held at x fit.each (slice_get_read held (length held) at x refl lt is) in
@@ -268,7 +268,7 @@ none-stands table m at place passed = record {
 
 module _ (table : Table) (m : ℕ) (held : List LevelState) (passed at : ℕ) (windows : List (ℕ × StartWindow)) (place : ℕ) where
   abbrev turns-of : HeldTurns
-  turns-of = record { table = table; cores = m; level = states_of held; passed = passed }
+  turns-of = record { table = table; cores = m; level = level_states held; passed = passed }
 
   -- the places are there
   pub record ArePlaces : Type 0 where
@@ -278,7 +278,7 @@ module _ (table : Table) (m : ℕ) (held : List LevelState) (passed at : ℕ) (w
   pub are-places : (old : HeldTurns) → turns-of ≡ old → StandsAt turns-of at windows place → IsSome (offer_at old) → ArePlaces
   are-places old is stands some =
       let placed = is-placed turns-of at windows place stands (subst (λ t. IsSome (offer_at t)) (sym is) some) in
-      let count : length (states_of held) ≡ length held = length-map held (λ (h : LevelState). h.state.state) in
+      let count : length (level_states held) ≡ length held = length-map held (λ (h : LevelState). h.state.state) in
       let in_windows = placed.in_windows in
       let in_level = placed.in_level in
       record { in_windows = in_windows; in_states = omega arith }
@@ -290,7 +290,7 @@ module _ (table : Table) (m : ℕ) (held : List LevelState) (passed at : ℕ) (w
     pub into : IsState table (length x.state.state.low) scratch.state
     pub window : state_window table x.state.state w.0 ≡ Some w.1
     pub offer : offer_at turns-of ≡ Some (offer_by table at x.state.state w)
-    pub behind : drop (passed + 1) (offers table (states_of held)) ≡ offers_left table (states_of held) at (drop (place + 1) windows)
+    pub behind : drop (passed + 1) (offers table (level_states held)) ≡ offers_left table (level_states held) at (drop (place + 1) windows)
 
   pub is-step : (old : HeldTurns) → turns-of ≡ old → AreFit table m held → StandsAt turns-of at windows place → IsSome (offer_at old) →
       (x : LevelState) → x ≡ get_or held at x → (w : ℕ × StartWindow) → w ≡ get_or windows place w → (scratch : HeldState) → IsState table m scratch.state → IsStep x w scratch
@@ -349,7 +349,7 @@ pub record ToldState (old : HeldTurns) (number : ℕ) (result : Option (Bor Leve
   pub none : IfNone result (slice_get old.level number ≡ None)
 
 pub told-state : (table : Table) (m : ℕ) (held : List LevelState) (passed number : ℕ) (old : HeldTurns) →
-    record { table = table; cores = m; level = states_of held; passed = passed } ≡ old → AreFit table m held → (result : Option (Bor LevelState)) →
+    record { table = table; cores = m; level = level_states held; passed = passed } ≡ old → AreFit table m held → (result : Option (Bor LevelState)) →
     MatchOption result (length held ≤ number) (λ x. (number < length held) × ((d : LevelState) → x.now ≡ get_or held number d)) → ToldState old number result
 told-state table m held passed number old is fit None past =
     subst (λ (t : HeldTurns). ToldState t number None) is (record { some = tt; fit = tt; none = state-past held number past })
@@ -359,7 +359,7 @@ told-state table m held passed number old is fit (Some x) there =
 
 -- ---- what is known of the fields, where clauses speak of the view
 
-module _ (table : Table) (m : ℕ) (held : List LevelState) (passed : ℕ) (old : HeldTurns) (is : record { table = table; cores = m; level = states_of held; passed = passed } ≡ old) where
+module _ (table : Table) (m : ℕ) (held : List LevelState) (passed : ℕ) (old : HeldTurns) (is : record { table = table; cores = m; level = level_states held; passed = passed } ≡ old) where
   pub own-fit : (state : SystemState) → IsFit old.table old.cores state → IsFit table m state
   own-fit state fit = subst (λ (t : HeldTurns). IsFit t.table t.cores state) (sym is) fit
 
@@ -368,7 +368,7 @@ module _ (table : Table) (m : ℕ) (held : List LevelState) (passed : ℕ) (old 
 
 pub passed-turn : (table : Table) (m : ℕ) (held : List LevelState) (passed at : ℕ) (windows : List (ℕ × StartWindow)) (place : ℕ) (old : HeldTurns) →
     turns-of table m held passed at windows place ≡ old → StandsAt (turns-of table m held passed at windows place) at windows place → IsSome (offer_at old) →
-    drop (passed + 1) (offers table (states_of held)) ≡ offers_left table (states_of held) at (drop (place + 1) windows)
+    drop (passed + 1) (offers table (level_states held)) ≡ offers_left table (level_states held) at (drop (place + 1) windows)
 passed-turn table m held passed at windows place old is stands some =
     (is-placed (turns-of table m held passed at windows place) at windows place stands (subst (λ t. IsSome (offer_at t)) (sym is) some)).turn.behind
 

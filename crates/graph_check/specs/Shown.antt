@@ -1,7 +1,7 @@
 -- What a reader of lines is seen as.
 --     held_progress progress        the progress that its fields hold
 use Rattle.graph_check.specs.declared.progress.Progress.TheInside.{Inside}
-use Rattle.graph_check.specs.Turns.{states_of}
+use Rattle.graph_check.specs.Turns.{level_states}
 use Rattle.graph_check.specs.Comings.{HeldProgress}
 use Rattle.graph_check.specs.Told.{entries_of}
 
@@ -16,7 +16,7 @@ held_progress p = record {
     level = p.level;
     count = p.count;
     before = p.walk.level;
-    states = states_of p.states.items;
+    states = level_states p.states.items;
     edges = p.walk.passed;
     hulls = p.hulls;
     jobs = entries_of p.jobs.spans.items p.jobs.marks.items;

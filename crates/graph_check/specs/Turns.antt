@@ -1,7 +1,7 @@
 -- The offers of a level, one after another, in memory.
 --     IsFit table m state          a state from which a step can be made
 --     IsLevelState table m held    such a state with a front, and AreFit table m held      all of these are
---     states_of held               the states alone, without their fronts and their room
+--     level_states held            the states alone, without their fronts and their room
 --     HeldTurns                    the states of a level, and how many of their offers have been passed
 --     offer_at turns               the offer whose turn it is
 --     Turn, turn_of offer          what names it
@@ -35,8 +35,8 @@ pub record AreFit (table : Table) (m : ℕ) (held : List LevelState) : Type 0 wh
   pub each : AllByRecursion (IsLevelState table m) held
 
 -- the states, without their fronts and their room
-abbrev pub states_of : List LevelState → List SystemState
-states_of held = map (λ h. h.state.state) held
+abbrev pub level_states : List LevelState → List SystemState
+level_states held = map (λ h. h.state.state) held
 
 -- the states of a level, and how many of their offers have been passed
 pub record HeldTurns : Type 0 where

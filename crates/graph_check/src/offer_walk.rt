@@ -7,7 +7,7 @@ ghost use Rattle.sag_step.specs.Next.{next};
 ghost use Rattle.sag_step.specs.Shape.{IsState, IsUpTo};
 ghost use Rattle.sag_step.specs.State.{state_window};
 ghost use Rattle.sag_step.specs.Widen.{widens};
-ghost use Rattle.graph_check.specs.Turns.{AreFit, IsFit, IsLevelState, IsStart, offer_at, offers_left, states_of, turn_of, windows_at};
+ghost use Rattle.graph_check.specs.Turns.{AreFit, IsFit, IsLevelState, IsStart, offer_at, offers_left, level_states, turn_of, windows_at};
 
 use crate::level_state::LevelState;
 use crate::turn::Turn;
@@ -48,19 +48,19 @@ pub(crate) struct OfferWalk<'a> {
 impl<'a> Model for OfferWalk<'a> {
     ghost use Rattle.std.specs.Prelude.{◌≡◌, ◌≤◌, length};
     ghost use Rattle.sag_step.specs.Shape.{IsState};
-    ghost use Rattle.graph_check.specs.Turns.{AreFit, HeldTurns, StandsAt, states_of};
+    ghost use Rattle.graph_check.specs.Turns.{AreFit, HeldTurns, StandsAt, level_states};
 
     ghost Value = { HeldTurns };
 
     ghost view = { λ w. record {
       table = w.table.now;
       cores = w.cores;
-      level = states_of w.states.items;
+      level = level_states w.states.items;
       passed = w.passed;
     } };
 
     ghost invariant = { λ w. (1 ≤ w.cores) × AreFit w.table.now w.cores w.states.items
-        × StandsAt (record { table = w.table.now; cores = w.cores; level = states_of w.states.items; passed = w.passed })
+        × StandsAt (record { table = w.table.now; cores = w.cores; level = level_states w.states.items; passed = w.passed })
         w.place.at w.place.windows.items w.place.place
         × IsState w.table.now w.cores w.scratch.state
         × (w.scratch.room ≡ length w.table.now.jobs) };
@@ -76,7 +76,7 @@ fn list_windows(
     windows: &mut Vec<(JobNo, StartWindow)>,
 ) -> Result<(), AllocError>
     requires states { AreFit table.now cores states.now }
-    ensures { OnOk result (windows.new.items ≡ windows_at table.now (states_of states.now) at) }
+    ensures { OnOk result (windows.new.items ≡ windows_at table.now (level_states states.now) at) }
 {
     let Some(entry) = states.get(at) else {
         windows.clear();
@@ -102,14 +102,14 @@ fn settle(
     place: &mut Place,
 ) -> Result<(), AllocError>
     requires states { AreFit table.now cores states.now }
-    requires own { place.old.windows.items ≡ windows_at table.now (states_of states.now) place.old.at }
+    requires own { place.old.windows.items ≡ windows_at table.now (level_states states.now) place.old.at }
     ensures own { OnOk result (place.new.windows.items
-        ≡ windows_at table.now (states_of states.now) place.new.at) }
+        ≡ windows_at table.now (level_states states.now) place.new.at) }
     ensures left { OnOk result
-        (offers_left table.now (states_of states.now) place.new.at (drop place.new.place place.new.windows.items)
-        ≡ offers_left table.now (states_of states.now) place.old.at (drop place.old.place place.old.windows.items)) }
+        (offers_left table.now (level_states states.now) place.new.at (drop place.new.place place.new.windows.items)
+        ≡ offers_left table.now (level_states states.now) place.old.at (drop place.old.place place.old.windows.items)) }
     ensures settled { OnOk result (length place.new.windows.items ≤ place.new.place
-        → length (states_of states.now) ≤ place.new.at) }
+        → length (level_states states.now) ≤ place.new.at) }
 {
     while place.place >= place.windows.len() && place.at < states.len() {
         place.at += 1;
@@ -272,7 +272,7 @@ impl<'a> OfferWalk<'a> {
     pub(crate) fn begin(&mut self, states: Vec<LevelState>) -> Result<(), AllocError>
         requires fit { AreFit self.old.table self.old.cores states.items }
         ensures begun { OnOk result (self.new
-            ≡ record self.old { level = states_of states.items; passed = 0 }) }
+            ≡ record self.old { level = level_states states.items; passed = 0 }) }
         ensures table { self.new.table ≡ self.old.table }
         ensures cores { self.new.cores ≡ self.old.cores }
     {
@@ -296,12 +296,12 @@ fn begin_at(
 ) -> Result<(), AllocError>
     requires states { AreFit table.now cores states.now }
     ensures own { OnOk result (place.new.windows.items
-        ≡ windows_at table.now (states_of states.now) place.new.at) }
+        ≡ windows_at table.now (level_states states.now) place.new.at) }
     ensures left { OnOk result
-        (offers_left table.now (states_of states.now) place.new.at (drop place.new.place place.new.windows.items)
-        ≡ offers_left table.now (states_of states.now) 0 (windows_at table.now (states_of states.now) 0)) }
+        (offers_left table.now (level_states states.now) place.new.at (drop place.new.place place.new.windows.items)
+        ≡ offers_left table.now (level_states states.now) 0 (windows_at table.now (level_states states.now) 0)) }
     ensures settled { OnOk result (length place.new.windows.items ≤ place.new.place
-        → length (states_of states.now) ≤ place.new.at) }
+        → length (level_states states.now) ≤ place.new.at) }
 {
     place.at = 0;
     place.place = 0;

@@ -9,7 +9,7 @@ use Rattle.sag_graph.specs.Graph.{AbstractionGraph, graph_of, graph_up_to, level
 use Rattle.sag_graph.specs.Budget.{edge_total, spent, state_total}
 use Rattle.graph_builder.specs.declared.fault.LevelFault.TheVariants as fault
 use Rattle.graph_builder.specs.Laws.{WholeGraphIsWithin}
-use Rattle.graph_builder.specs.Standing.{IsSpentAfter, IsStanding, Standing, standing_at}
+use Rattle.graph_builder.specs.Standing.{IsSpentAfter, IsStanding, Standing, builder_at}
 use Rattle.graph_memory.specs.declared.building.BuildAnswer.TheVariants as answer
 use Rattle.graph_memory.specs.Building.{HasBuilt, IsSpentBuild}
 use Rattle.graph_memory.specs.Held.{GraphsAreHeld, IsHeldGraph, edges_in, states_in}
@@ -24,10 +24,10 @@ abbrev pub graph_with : ℕ → List Level → List (Option Interval) → Abstra
 graph_with m levels spans = record { cores = m; levels = levels; spans = spans }
 
 -- at level k, with these levels
-built-at : (table : Table) (m budget k : ℕ) (levels : List Level) → levels ≡ levels_up_to table m k → budget ≤ MOST_BUDGET → HasBuilt table m (standing_at table m budget k) levels
+built-at : (table : Table) (m budget k : ℕ) (levels : List Level) → levels ≡ levels_up_to table m k → budget ≤ MOST_BUDGET → HasBuilt table m (builder_at table m budget k) levels
 built-at table m budget k levels kept few = record { stands = refl; kept = kept; few = few }
 
-pub first-built : (table : Table) (m budget : ℕ) (b : Standing) (levels : List Level) → b ≡ standing_at table m budget 0 → budget ≤ MOST_BUDGET → levels ≡ [] ++ top_of b ∷ [] → HasBuilt table m b levels
+pub first-built : (table : Table) (m budget : ℕ) (b : Standing) (levels : List Level) → b ≡ builder_at table m budget 0 → budget ≤ MOST_BUDGET → levels ≡ [] ++ top_of b ∷ [] → HasBuilt table m b levels
 first-built table m budget b levels is few kept =
     subst (λ (s : Standing). HasBuilt table m s levels) (sym is)
     (built-at table m budget 0 levels (kept ∙ ap (λ (s : Standing). top_of s ∷ []) is) few)
@@ -39,10 +39,10 @@ module _ (table : Table) (m : ℕ) (b : Standing) (levels : List Level) (built :
   cores-are : b.cores ≡ m
   cores-are = ap (λ (s : Standing). s.cores) built.stands
 
-  next-built : (b' : Standing) (levels' : List Level) → b' ≡ standing_at b.table b.cores b.budget (b.level + 1) → levels' ≡ levels ++ top_of b' ∷ [] → HasBuilt table m b' levels'
+  next-built : (b' : Standing) (levels' : List Level) → b' ≡ builder_at b.table b.cores b.budget (b.level + 1) → levels' ≡ levels ++ top_of b' ∷ [] → HasBuilt table m b' levels'
   next-built b' levels' up kept =
-      let is : b' ≡ standing_at table m b.budget (b.level + 1) =
-      up ∙ ap (λ t. standing_at t b.cores b.budget (b.level + 1)) table-is ∙ ap (λ n. standing_at table n b.budget (b.level + 1)) cores-are in
+      let is : b' ≡ builder_at table m b.budget (b.level + 1) =
+      up ∙ ap (λ t. builder_at t b.cores b.budget (b.level + 1)) table-is ∙ ap (λ n. builder_at table n b.budget (b.level + 1)) cores-are in
       let all : levels' ≡ levels_up_to table m (b.level + 1) =
       kept ∙ ap (λ ls. ls ++ top_of b' ∷ []) built.kept ∙ ap (λ (s : Standing). levels_up_to table m b.level ++ top_of s ∷ []) is
       ∙ ap (λ n. levels_up_to table m b.level ++ level_at table m n ∷ []) (add-one b.level) ∙ sym (ap (levels_up_to table m) (add-one b.level)) in
@@ -50,14 +50,14 @@ module _ (table : Table) (m : ℕ) (b : Standing) (levels : List Level) (built :
 
   -- one level more, where the builder says that it went on, as it does below the last level
   pub goes-up : (went : Bool) (b' : Standing) (levels' : List Level) (counter : ℕ) →
-      b' ≡ (if went then standing_at b.table b.cores b.budget (b.level + 1) else b) → (IsTrue went ↔ (b.level < length b.table.jobs)) →
+      b' ≡ (if went then builder_at b.table b.cores b.budget (b.level + 1) else b) → (IsTrue went ↔ (b.level < length b.table.jobs)) →
       b.level ≡ counter → counter < length table.jobs → levels' ≡ levels ++ top_of b' ∷ [] →
       HasBuilt table m b' levels' × (b'.level ≡ counter + 1) × (b'.budget ≡ b.budget)
   goes-up went b' levels' counter up last at below kept =
       let here : b.level < length table.jobs = subst (λ n. n < length table.jobs) (sym at) below in
       let there : b.level < length b.table.jobs = subst (λ (t : Table). b.level < length t.jobs) (sym table-is) here in
-      let is : b' ≡ standing_at b.table b.cores b.budget (b.level + 1) =
-      up ∙ ap (λ (w : Bool). if w then standing_at b.table b.cores b.budget (b.level + 1) else b) (last.1 there) in
+      let is : b' ≡ builder_at b.table b.cores b.budget (b.level + 1) =
+      up ∙ ap (λ (w : Bool). if w then builder_at b.table b.cores b.budget (b.level + 1) else b) (last.1 there) in
       (next-built b' levels' is kept, ap (λ (s : Standing). s.level) is ∙ ap (λ n. n + 1) at, ap (λ (s : Standing). s.budget) is)
 
   pub spans-long : length b.spans ≡ length table.jobs

@@ -7,13 +7,13 @@ use Rattle.sag_graph.specs.declared.TheConstants.{MOST_BUDGET}
 use Rattle.sag_graph.specs.Levels.{Level}
 use Rattle.sag_graph.specs.Graph.{graph_up_to, levels_up_to}
 use Rattle.sag_graph.specs.Budget.{spent}
-use Rattle.graph_builder.specs.Standing.{Standing, standing_at}
+use Rattle.graph_builder.specs.Standing.{Standing, builder_at}
 use Rattle.graph_memory.specs.declared.building.BuildAnswer.{BuildAnswer}
 use Rattle.graph_memory.specs.declared.building.BuildAnswer.TheVariants as answer
 
 -- The builder stands at a level of the table's graph, and these are the levels up to that one.
 pub record HasBuilt (table : Table) (m : ℕ) (builder : Standing) (levels : List Level) : Type 0 where
-  pub stands : builder ≡ standing_at table m builder.budget builder.level
+  pub stands : builder ≡ builder_at table m builder.budget builder.level
   pub kept : levels ≡ levels_up_to table m builder.level
   pub few : builder.budget ≤ MOST_BUDGET
 

@@ -19,7 +19,7 @@ use Rattle.sag_graph.specs.CertificateText.{text_of_graph}
 use Rattle.sag_graph.specs.Spans.{spans_up_to}
 use Rattle.graph_builder.specs.declared.fault.LevelFault.TheVariants as fault
 use Rattle.graph_builder.specs.Laws.{WholeGraphIsWithin}
-use Rattle.graph_builder.specs.Standing.{IsSpentAfter, IsStanding, Standing, standing_at}
+use Rattle.graph_builder.specs.Standing.{IsSpentAfter, IsStanding, Standing, builder_at}
 use Rattle.sag_engine.specs.declared.conclusion.Conclusion.{Conclusion}
 use Rattle.sag_engine.specs.declared.conclusion.Conclusion.TheVariants.{Done, Spent}
 use Rattle.sag_engine.specs.declared.halt.Halt.{Halt}
@@ -145,7 +145,7 @@ first_begins table m budget =
     let first = reply_begins table m budget 0 (omega arith) (λ j lt. absurd (omega (arith, lt))) (spent table m budget) refl in
     subst (λ t. Begins t (reply_for table m budget).bytes) (text_first table m) first
 
-module _ {table : Table} {m budget : ℕ} {s : Standing} (at_root : s ≡ standing_at table m budget 0) where
+module _ {table : Table} {m budget : ℕ} {s : Standing} (at_root : s ≡ builder_at table m budget 0) where
   root_head : lines_text (head_lines s.table s.cores) ≡ lines_text (head_lines table m)
   root_head = ap (λ (x : Standing). lines_text (head_lines x.table x.cores)) at_root
 
@@ -201,7 +201,7 @@ module _ {table : Table} {m budget : ℕ} {s : Standing} {a b : SeenSink} (befor
       let text = subst (λ k. Wrote (text_up_to table m k) a b) own before.printed in
       subst (λ o. Prints (analysis_reply table m o) a c r) (sym first) (record { writes = writes_all text d; conclusion = told })
 
-  module _ {next : Standing} (is : next ≡ standing_at s.table s.cores s.budget (s.level + 1)) (stands : IsStanding next) where
+  module _ {next : Standing} (is : next ≡ builder_at s.table s.cores s.budget (s.level + 1)) (stands : IsStanding next) where
     next_table : next.table ≡ table
     next_table = ap (λ (x : Standing). x.table) is ∙ before.table_is
 

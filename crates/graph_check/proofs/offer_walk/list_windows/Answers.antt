@@ -3,13 +3,13 @@ use Rattle.sag_time.specs.Interval.{Interval}
 use Rattle.job_sets.specs.Subset.{Subset}
 use Rattle.start_windows.specs.Ends.{HeldEnds}
 use Rattle.start_windows.specs.Eligible.{IsFront, eligible_windows}
-use Rattle.graph_check.specs.Turns.{states_of}
+use Rattle.graph_check.specs.Turns.{level_states}
 use Rattle.graph_check.proofs.Offers.{source-at, state-past, windows-here, windows-past}
 use Rattle.graph_check.proofs.offer_walk.list_windows.Goals as goal
 
 pub returns-in_default : goal.returns-in_default
 returns-in_default c =
-    c.clear.ensures.items ∙ sym (windows-past c.args.table.now (states_of c.args.states.now) c.args.at (state-past c.args.states.now c.args.at c.in_default.ensures.lookup.3))
+    c.clear.ensures.items ∙ sym (windows-past c.args.table.now (level_states c.args.states.now) c.args.at (state-past c.args.states.now c.args.at c.in_default.ensures.lookup.3))
 
 pub first_core-requires-clause-some : goal.first_core-requires-clause-some
 first_core-requires-clause-some c =
@@ -37,7 +37,7 @@ returns c =
     ∙ ap (λ (set : Subset). eligible_windows table set.members c.ends.result.now.items c.first_core.result) c.set.ensures
     ∙ ap (λ (ends : HeldEnds). eligible_windows table s.set.members ends.items c.first_core.result) c.ends.ensures
     ∙ ap (λ (first : Interval). eligible_windows table s.set.members s.ends first) c.first_core.ensures
-    ∙ sym (windows-here table (states_of c.args.states.now) c.args.at s source.at_place)
+    ∙ sym (windows-here table (level_states c.args.states.now) c.args.at s source.at_place)
 
 pub eligible-requires-clause-front : goal.eligible-requires-clause-front
 eligible-requires-clause-front c =

@@ -1,11 +1,11 @@
 use Rattle.std.proofs.Common.{arith, ◌+◌, ◌∙◌, ap}
-use Rattle.graph_check.specs.Turns.{states_of, offers_left}
+use Rattle.graph_check.specs.Turns.{level_states, offers_left}
 use Rattle.graph_check.proofs.Offers.{left-next}
 use Rattle.graph_check.proofs.offer_walk.settle.Goals as goal
 
 pub loop-place-preserved : goal.loop-place-preserved
 loop-place-preserved c =
-    let level = states_of c.args.states.now in
+    let level = level_states c.args.states.now in
     let old = c.loop-place.place in
     let own = c.in_ok-list_windows.ensures in
     record {

@@ -1,11 +1,11 @@
 use Rattle.std.proofs.Common.{◌≡◌, ◌-◌, drop, length}
-use Rattle.graph_check.specs.Turns.{states_of, offers_left, windows_at}
+use Rattle.graph_check.specs.Turns.{level_states, offers_left, windows_at}
 use Rattle.graph_check.proofs.offer_walk.settle.Given as goal
 
 -- the windows are those of the state, and what is left is what was left at first
 abbrev pub invariant-loop-place : goal.invariant-loop-place
 invariant-loop-place l =
-    let level = states_of l.states in
+    let level = level_states l.states in
     record {
       own : l.place.windows.items ≡ windows_at l.table level l.place.at;
       left : offers_left l.table level l.place.at (drop l.place.place l.place.windows.items)

@@ -1,7 +1,7 @@
 use Rattle.std.proofs.Common.{◌≡◌, ◌+◌, ◌<◌, ap, arith, length, subst, sym}
 use Rattle.std.proofs.lemmas.Result.{err_from_is_err_and}
 use Rattle.job_model.specs.Table.{Table}
-use Rattle.graph_builder.specs.Standing.{Standing, standing_at}
+use Rattle.graph_builder.specs.Standing.{Standing, builder_at}
 use Rattle.sag_engine.proofs.AnalyseLemmas.{Printing, ends_done, ends_spent, first_printed, halts_at_once, halts_between, halts_in_first, halts_in_head, halts_in_next, next_printed, stands_last}
 use Rattle.sag_engine.proofs.command_analyse.print_graph.Goals as goal
 
@@ -36,7 +36,7 @@ returns-then-not-went g c =
 
 pub loop-went-smaller : goal.loop-went-smaller
 loop-went-smaller g c =
-    let up : c.next_level.new.self ≡ standing_at c.loop-went.builder.table c.loop-went.builder.cores c.loop-went.builder.budget (c.loop-went.builder.level + 1) =
+    let up : c.next_level.new.self ≡ builder_at c.loop-went.builder.table c.loop-went.builder.cores c.loop-went.builder.budget (c.loop-went.builder.level + 1) =
     rw c.if-not-went.false at c.in-Ok-next_level.ensures.up in
     let level : c.next_level.new.self.level ≡ c.loop-went.builder.level + 1 = ap (λ (s : Standing). s.level) up in
     let less : c.loop-went.builder.level < length c.loop-went.builder.table.jobs = c.in-Ok-next_level.ensures.last.0 c.if-not-went.false in
@@ -45,13 +45,13 @@ loop-went-smaller g c =
 
 pub loop-went-preserved : goal.loop-went-preserved
 loop-went-preserved g c =
-    let up : c.next_level.new.self ≡ standing_at c.loop-went.builder.table c.loop-went.builder.cores c.loop-went.builder.budget (c.loop-went.builder.level + 1) =
+    let up : c.next_level.new.self ≡ builder_at c.loop-went.builder.table c.loop-went.builder.cores c.loop-went.builder.budget (c.loop-went.builder.level + 1) =
     rw c.if-not-went.false at c.in-Ok-next_level.ensures.up in
     next_printed c.loop-went.invariant up c.in-Ok-next_level.ensures.standing c.in_ok-print_level-in-Ok-next_level.ensures
 
 pub returns-in_err-print_level-in-Ok-next_level : goal.returns-in_err-print_level-in-Ok-next_level
 returns-in_err-print_level-in-Ok-next_level g c =
-    let up : c.next_level.new.self ≡ standing_at c.loop-went.builder.table c.loop-went.builder.cores c.loop-went.builder.budget (c.loop-went.builder.level + 1) =
+    let up : c.next_level.new.self ≡ builder_at c.loop-went.builder.table c.loop-went.builder.cores c.loop-went.builder.budget (c.loop-went.builder.level + 1) =
     rw c.if-not-went.false at c.in-Ok-next_level.ensures.up in
     let p = err_from_is_err_and c.from_residual-in_err-print_level-in-Ok-next_level.result c.from_residual-in_err-print_level-in-Ok-next_level.ensures.1 in
     rw (p.1, p.2) (halts_in_next c.loop-went.invariant up c.in-Ok-next_level.ensures.standing c.in_err-print_level-in-Ok-next_level.ensures)

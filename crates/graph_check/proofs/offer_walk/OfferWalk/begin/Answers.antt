@@ -1,6 +1,6 @@
 use Rattle.std.proofs.Common.{◌≡◌, false}
 use Rattle.std.specs.Prelude.{is_err}
-use Rattle.graph_check.specs.Turns.{states_of}
+use Rattle.graph_check.specs.Turns.{level_states}
 use Rattle.graph_check.proofs.Offers.{by-ok, fit-of-view, left-first, no-states-fit, none-stands, settled-stands}
 use Rattle.graph_check.proofs.offer_walk.OfferWalk.begin.Goals as goal
 
@@ -22,11 +22,11 @@ invariant_of-self-else-is_err c =
     let fine : is_err c.begin_at-begun.result ≡ false = cc in (
       c.self.invariant.0,
       fit-of-view w.table.now w.cores w.states.items w.passed c.args.self.now c.self.view_is c.args.states.items c.requires.fit,
-      settled-stands w.table.now w.cores (states_of c.args.states.items) 0 new.at new.windows.items new.place _
+      settled-stands w.table.now w.cores (level_states c.args.states.items) 0 new.at new.windows.items new.place _
           (by-ok c.begin_at-begun.result fine (rw c.deref.ensures.value at c.begin_at-begun.ensures.own))
           (by-ok c.begin_at-begun.result fine (rw c.deref.ensures.value at c.begin_at-begun.ensures.left))
           (by-ok c.begin_at-begun.result fine (rw c.deref.ensures.value at c.begin_at-begun.ensures.settled))
-          (left-first w.table.now (states_of c.args.states.items)),
+          (left-first w.table.now (level_states c.args.states.items)),
       c.self.invariant.3,
       c.self.invariant.4,
     )

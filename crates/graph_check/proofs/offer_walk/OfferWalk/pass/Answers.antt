@@ -1,6 +1,6 @@
 use Rattle.std.proofs.Common.{◌≡◌, ◌+◌, false, arith}
 use Rattle.std.specs.Prelude.{is_err}
-use Rattle.graph_check.specs.Turns.{states_of}
+use Rattle.graph_check.specs.Turns.{level_states}
 use Rattle.graph_check.proofs.Offers.{are-places, by-ok, no-states-fit, none-stands, passed-turn, settled-stands}
 use Rattle.graph_check.proofs.offer_walk.OfferWalk.pass.Goals as goal
 
@@ -29,7 +29,7 @@ invariant_of-self-else-is_err c =
     let turn = passed-turn w.table.now w.cores w.states.items w.passed w.place.at w.place.windows.items w.place.place c.args.self.now c.self.view_is c.self.invariant.2 c.requires.left in (
       c.self.invariant.0,
       c.self.invariant.1,
-      settled-stands w.table.now w.cores (states_of w.states.items) (w.passed + 1) new.at new.windows.items new.place _
+      settled-stands w.table.now w.cores (level_states w.states.items) (w.passed + 1) new.at new.windows.items new.place _
           (by-ok c.settle-settled.result fine (rw c.deref.ensures.value at c.settle-settled.ensures.own))
           (by-ok c.settle-settled.result fine (rw c.deref.ensures.value at c.settle-settled.ensures.left))
           (by-ok c.settle-settled.result fine (rw c.deref.ensures.value at c.settle-settled.ensures.settled))
