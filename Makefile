@@ -69,5 +69,5 @@ bench: program
 	python3 bench/replay.py $(PROGRAM)
 	@cd crates/cert_speed && rt run >/dev/null 2>&1 && bash -c 'time out/cert_speed'
 
-faults:
-	python3 bench/alloc_faults.py
+faults: program
+	python3 bench/alloc_faults.py $(PROGRAM)

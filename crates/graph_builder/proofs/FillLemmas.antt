@@ -127,14 +127,12 @@ drop-at (y ∷ xs) (suc k) d lt = drop-at xs k d (omega arith)
 -- The offers from a state on are its own, by its windows, and those from the next state on.
 pub offers-here : (table : Table) (level : List SystemState) (i : ℕ) (s : SystemState) → i < length level → get_or level i s ≡ s →
     offers_from table level i ≡ map (offer_by table i s) (eligible_windows table s.set.members s.ends (first_core s)) ++ offers_from table level (i + 1)
-unfolding offers_from
 offers-here table level i s lt is =
     ap (λ l. flat_map (offers_of table) (enumerate_from i l)) (drop-at level i s lt ∙ ap (λ x. x ∷ drop (suc i) level) is)
     ∙ ap (λ os. os ++ flat_map (offers_of table) (enumerate_from (i + 1) (drop (suc i) level))) (own_offers table i s)
     ∙ ap (λ n. map (offer_by table i s) (eligible_windows table s.set.members s.ends (first_core s)) ++ flat_map (offers_of table) (enumerate_from (i + 1) (drop n level))) (sym (add-one i))
 
 pub offers-first : (table : Table) (level : List SystemState) → offers table level ≡ offers_from table level 0
-unfolding offers_from
 offers-first table level = refl
 
 drop-past : {A : Type 0} (k : ℕ) (xs : List A) → length xs ≤ k → drop k xs ≡ []
@@ -144,7 +142,6 @@ drop-past zero (x ∷ xs) h = absurd (omega arith)
 drop-past (suc k) (x ∷ xs) h = drop-past k xs (omega arith)
 
 pub offers-past : (table : Table) (level : List SystemState) (i : ℕ) → length level ≤ i → offers_from table level i ≡ []
-unfolding offers_from
 offers-past table level i past = ap (λ l. flat_map (offers_of table) (enumerate_from i l)) (drop-past i level past)
 
 -- the window of a job of such a list
