@@ -1,6 +1,6 @@
 # make: prove and build the program. demo: a build without proofs, which analyses and checks an example. test: the gate, the
-# conformance calls, the check of the documents, and the tools' tests. install, uninstall: the program, its manual page and the tools
-# under PREFIX; with PYTHON=.. the tools run under that Python. bench, faults: measures.
+# conformance calls, the check of the documents, failing memory, and the tools' tests. install, uninstall: the program, its manual page and the tools
+# under PREFIX; with PYTHON=.. the tools run under that Python. bench: measures. faults: each allocation of the examples fails in turn.
 
 PREFIX ?= /usr/local
 PROGRAM = crates/sag/out/sag
@@ -29,7 +29,7 @@ demo:
 	  { cat out/demo.log >&2; exit 1; }
 	@echo "This build is not proved. 'make' proves and builds the program, 'make test' all of it."
 
-test: gate documents conformance test-tools
+test: gate documents conformance faults test-tools
 
 gate:
 	rt ci
@@ -70,4 +70,5 @@ bench: program
 	@cd crates/cert_speed && rt run >/dev/null 2>&1 && bash -c 'time out/cert_speed'
 
 faults: program
-	python3 bench/alloc_faults.py $(PROGRAM)
+	@if command -v $${CC:-cc} >/dev/null; then python3 bench/alloc_faults.py $(PROGRAM); \
+	  else echo 'faults: no C compiler for bench/fail_alloc.c (apt install gcc)'; fi
