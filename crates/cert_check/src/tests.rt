@@ -1,7 +1,5 @@
 //! Certificates of two jobs on one core, in two pieces.
 
-ghost use Rattle.std.specs.Prelude.{◌≤◌, length};
-
 use crate::{CertCheck, CertEnd};
 use cert_text::FeedFault;
 use graph_check::Clause;
@@ -15,16 +13,23 @@ const CERT: &str =
     edge 0 0 0 0 0\nedge 0 1 0 0 1\nlevel 2 1\nstate 0 1 3:5 | |\nedge 0 1 1 2 0\nedge 1 0 2 3 0\n\
     job 0 1 5 ok\njob 1 2 5 ok\nverdict ok\nend\n";
 
+// Longer than each certificate here.
+const LONGEST: usize = 1000;
+
+// How many bytes come first.
+const SPLITS: [usize; 3] = [0, 20, 208];
+
 // The clause and the line of a no, or none for a yes of two jobs; or a fault.
 type End = Result<Option<(Clause, u64)>, FeedFault>;
 
 // What a certificate comes to, of which so many bytes come first.
-fn check(alloc: Global, cert: &str, split: usize) -> Result<End, Fail>
-    requires { length cert.now ≤ 1000 }
-{
+fn check(alloc: Global, cert: &[u8], split: usize) -> Result<End, Fail> {
+    if cert.len() > LONGEST {
+        return Err("it is short")?;
+    }
     let table = blocking(alloc)?;
     let mut check = CertCheck::new(alloc, &table, 1)?;
-    let (front, rest) = cert.as_bytes().split_at(split.min(cert.len()));
+    let (front, rest) = cert.split_at(split.min(cert.len()));
     check.take_piece(front)?;
     check.take_piece(rest)?;
     match check.finish() {
@@ -35,21 +40,44 @@ fn check(alloc: Global, cert: &str, split: usize) -> Result<End, Fail>
     }
 }
 
-#[test]
-fn checks_two_pieces(rt: HostRuntime) -> Result<(), Fail> {
-    let text = |line, byte| Err(FeedFault::Text { line, byte });
-    for (cert, end) in [
-        (CERT, Ok(None)),
-        ("sagcert 2 3 1\nend\n", Ok(Some((Clause::K1, 1)))),
-        ("sagcert 2 2 1\nend\n", Ok(Some((Clause::K2, 2)))),
-        // a text fault wins over a clause that an earlier line breaks
-        ("sagcert 2 3 1\nend\nx", text(3, 1)),
-        ("sagcert 2 3 1\nlevel", text(2, 6)),
-    ] {
-        for split in [0, 20, 208] {
-            let got = check(rt.alloc(), cert, split)?;
-            assert_eq!(rt; got, end, "{split}: {cert}");
+// Whether it comes to a yes, cut at three places.
+fn is_yes(alloc: Global, cert: &[u8]) -> Result<bool, Fail> {
+    for split in SPLITS {
+        if check(alloc, cert, split)? != Ok(None) {
+            return Ok(false);
         }
     }
+    Ok(true)
+}
+
+// Whether it comes to that no, cut at three places.
+fn is_no(alloc: Global, cert: &[u8], clause: Clause, line: u64) -> Result<bool, Fail> {
+    for split in SPLITS {
+        if check(alloc, cert, split)? != Ok(Some((clause, line))) {
+            return Ok(false);
+        }
+    }
+    Ok(true)
+}
+
+// Whether it comes to a text fault there, cut at three places.
+fn is_no_text(alloc: Global, cert: &[u8], line: u64, byte: u64) -> Result<bool, Fail> {
+    for split in SPLITS {
+        if check(alloc, cert, split)? != Err(FeedFault::Text { line, byte }) {
+            return Ok(false);
+        }
+    }
+    Ok(true)
+}
+
+#[test]
+fn checks_two_pieces(rt: HostRuntime) -> Result<(), Fail> {
+    let alloc = rt.alloc();
+    assert!(rt; is_yes(alloc, CERT.as_bytes())?);
+    assert!(rt; is_no(alloc, b"sagcert 2 3 1\nend\n", Clause::K1, 1)?);
+    assert!(rt; is_no(alloc, b"sagcert 2 2 1\nend\n", Clause::K2, 2)?);
+    // a text fault wins over a clause that an earlier line breaks
+    assert!(rt; is_no_text(alloc, b"sagcert 2 3 1\nend\nx", 3, 1)?);
+    assert!(rt; is_no_text(alloc, b"sagcert 2 3 1\nlevel", 2, 6)?);
     Ok(())
 }

@@ -13,7 +13,6 @@ use std::marker::Model;
 /// The text of lines of the old version in the new one.
 #[derive(Drop)]
 pub(crate) struct ConvertedLines {
-    alloc: Global,
     text: Vec<u8>,
 }
 
@@ -34,7 +33,7 @@ impl TakeLine for ConvertedLines {
 
     fn take_line(&mut self, line: CertLine) -> Result<(), AllocError> {
         old_lines_fit();
-        write_line(self.alloc, &line, &mut self.text)
+        write_line(&line, &mut self.text)
     }
 }
 
@@ -44,7 +43,6 @@ impl ConvertedLines {
         ensures { result ≡ [] }
     {
         ConvertedLines {
-            alloc,
             text: Vec::new(alloc),
         }
     }

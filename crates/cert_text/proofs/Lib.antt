@@ -17,3 +17,4 @@ mod OldLines
 mod OneHeld
 mod Pieces
 mod RunCounts
+mod Begins

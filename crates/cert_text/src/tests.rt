@@ -84,7 +84,7 @@ fn copy(
         let end = piece_end(text, at, split, cut);
         at += reader.feed(&text[at..end])?;
         if let Some(line) = reader.take() {
-            if write_line(alloc, &line, copied).is_err() {
+            if write_line(&line, copied).is_err() {
                 return Err(FeedFault::Memory);
             }
         }
@@ -350,8 +350,8 @@ fn writes_lines(rt: HostRuntime) -> Result<(), Fail> {
         hi: 345,
         mark: Mark::Miss,
     };
-    write_line(rt.alloc(), &line, &mut text)?;
-    write_line(rt.alloc(), &CertLine::End, &mut text)?;
+    write_line(&line, &mut text)?;
+    write_line(&CertLine::End, &mut text)?;
     assert_eq!(rt; text.as_slice(), b"job 0 12 345 miss\nend\n".as_slice());
     Ok(())
 }

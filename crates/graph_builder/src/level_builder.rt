@@ -189,7 +189,7 @@ impl<'a> LevelBuilder<'a> {
         ensures err { OnErr result (into.new.items ≡ into.old.items) }
         ensures standing { IsStanding self.now }
     {
-        writing::write_head(self.alloc, self.table, self.cores, into)
+        writing::write_head(self.table, self.cores, into)
     }
 
     /// Appends the lines of the level at which it stands.
@@ -211,7 +211,7 @@ impl<'a> LevelBuilder<'a> {
         ensures err { OnErr result (into.new.items ≡ into.old.items) }
         ensures standing { IsStanding self.now }
     {
-        writing::write_tail(self.alloc, self.table, &self.spans, into)
+        writing::write_tail(self.table, &self.spans, into)
     }
 
     // The draft becomes the level at which it stands.

@@ -20,21 +20,16 @@ use sag_time::Span;
 use std::alloc::{AllocError, Global};
 
 // Appends the line.
-fn append_line(alloc: Global, line: &CertLine, into: &mut Vec<u8>) -> Result<(), AllocError>
+fn append_line(line: &CertLine, into: &mut Vec<u8>) -> Result<(), AllocError>
     requires { FitsLine second_version line.now }
     ensures ok { OnOk result (into.new.items ≡ into.old.items ++ text_of (line.now ∷ [])) }
     ensures err { OnErr result (into.new.items ≡ into.old.items) }
 {
-    write_line(alloc, line, into)
+    write_line(line, into)
 }
 
 /// Appends what stands before the levels.
-pub(crate) fn write_head(
-    alloc: Global,
-    table: &JobTable,
-    cores: u16,
-    into: &mut Vec<u8>,
-) -> Result<(), AllocError>
+pub(crate) fn write_head(table: &JobTable, cores: u16, into: &mut Vec<u8>) -> Result<(), AllocError>
     ensures ok { OnOk result (into.new.items ≡ into.old.items ++ text_of (head_lines table.now cores)) }
     ensures err { OnErr result (into.new.items ≡ into.old.items) }
 {
@@ -42,7 +37,7 @@ pub(crate) fn write_head(
         jobs: u64::from(table.len()),
         cores: u64::from(cores),
     };
-    append_line(alloc, &line, into)
+    append_line(&line, into)
 }
 
 // Notes where the edge comes from for the state that it leads to.
@@ -82,7 +77,7 @@ fn write_state(
     ensures err { OnErr result (into.new.items ≡ into.old.items) }
 {
     let line = line_of(alloc, state, origin)?;
-    append_line(alloc, &line, into)
+    append_line(&line, into)
 }
 
 // Appends the lines of the states.
@@ -105,7 +100,7 @@ fn write_states(
 }
 
 // Appends the line of an edge.
-fn write_edge(alloc: Global, edge: &Edge, into: &mut Vec<u8>) -> Result<(), AllocError>
+fn write_edge(edge: &Edge, into: &mut Vec<u8>) -> Result<(), AllocError>
     requires { IsTimed edge.now }
     ensures ok { OnOk result (into.new.items ≡ into.old.items ++ text_of (line_of_edge edge.now ∷ [])) }
     ensures err { OnErr result (into.new.items ≡ into.old.items) }
@@ -117,17 +112,17 @@ fn write_edge(alloc: Global, edge: &Edge, into: &mut Vec<u8>) -> Result<(), Allo
         lst: edge.window.lst,
         to: u64::from(edge.to.0),
     };
-    append_line(alloc, &line, into)
+    append_line(&line, into)
 }
 
 // Appends the lines of the edges.
-fn write_edges(alloc: Global, edges: &[Edge], into: &mut Vec<u8>) -> Result<(), AllocError>
+fn write_edges(edges: &[Edge], into: &mut Vec<u8>) -> Result<(), AllocError>
     requires { AllByRecursion IsTimed edges.now }
     ensures ok { OnOk result (into.new.items ≡ into.old.items ++ text_of (edge_lines edges.now)) }
     ensures begins { take (length into.old.items) into.new.items ≡ into.old.items }
 {
     for i in 0..edges.len() {
-        write_edge(alloc, &edges[i], into)?;
+        write_edge(&edges[i], into)?;
     }
     Ok(())
 }
@@ -144,11 +139,11 @@ fn put_root(alloc: Global, states: &[State], into: &mut Vec<u8>) -> Result<(), A
         number: 0,
         count: 1,
     };
-    append_line(alloc, &head, into)?;
+    append_line(&head, into)?;
     let line = CertLine::Root {
         pairs: pairs_of(alloc, &states[0])?,
     };
-    append_line(alloc, &line, into)
+    append_line(&line, into)
 }
 
 // Appends a level above level 0, or a part of it.
@@ -171,9 +166,9 @@ fn put_block(
         number: u64::from(level),
         count: states.len() as u64,
     };
-    append_line(alloc, &head, into)?;
+    append_line(&head, into)?;
     write_states(alloc, states, edges, into)?;
-    write_edges(alloc, edges, into)
+    write_edges(edges, into)
 }
 
 // Appends a level, or a part of it.
@@ -248,13 +243,7 @@ fn is_in_time(table: &JobTable, job: JobNo, span: Span) -> bool
 }
 
 // Appends the line of a job.
-fn write_job(
-    alloc: Global,
-    table: &JobTable,
-    job: JobNo,
-    span: Span,
-    into: &mut Vec<u8>,
-) -> Result<(), AllocError>
+fn write_job(table: &JobTable, job: JobNo, span: Span, into: &mut Vec<u8>) -> Result<(), AllocError>
     requires job { job < length table.now.jobs }
     requires fits { span.hi ≤ most_number }
     ensures ok { OnOk result (into.new.items ≡ into.old.items
@@ -267,12 +256,11 @@ fn write_job(
         hi: span.hi(),
         mark: mark_of(is_in_time(table, job, span)),
     };
-    append_line(alloc, &line, into)
+    append_line(&line, into)
 }
 
 // Appends the lines of the jobs.
 fn write_jobs(
-    alloc: Global,
     table: &JobTable,
     spans: &[Option<Span>],
     into: &mut Vec<u8>,
@@ -285,7 +273,7 @@ fn write_jobs(
 {
     for j in 0..table.len() {
         let span = known(spans[usize::from(j)]);
-        write_job(alloc, table, JobNo(j), span, into)?;
+        write_job(table, JobNo(j), span, into)?;
     }
     Ok(())
 }
@@ -304,28 +292,22 @@ fn are_in_time(table: &JobTable, spans: &[Option<Span>]) -> bool
 }
 
 // Appends what stands after the levels, or a part of it.
-fn put_tail(
-    alloc: Global,
-    table: &JobTable,
-    spans: &[Option<Span>],
-    into: &mut Vec<u8>,
-) -> Result<(), AllocError>
+fn put_tail(table: &JobTable, spans: &[Option<Span>], into: &mut Vec<u8>) -> Result<(), AllocError>
     requires count { length spans.now ≡ length table.now.jobs }
     requires fit { AllByRecursion (IsSpanUpTo most_number) spans.now }
     ensures ok { OnOk result (into.new.items ≡ into.old.items ++ text_of (tail_lines table.now spans.now)) }
     ensures begins { take (length into.old.items) into.new.items ≡ into.old.items }
 {
-    write_jobs(alloc, table, spans, into)?;
+    write_jobs(table, spans, into)?;
     let verdict = CertLine::Verdict {
         mark: mark_of(are_in_time(table, spans)),
     };
-    append_line(alloc, &verdict, into)?;
-    append_line(alloc, &CertLine::End, into)
+    append_line(&verdict, into)?;
+    append_line(&CertLine::End, into)
 }
 
 /// Appends what stands after the levels, or nothing.
 pub(crate) fn write_tail(
-    alloc: Global,
     table: &JobTable,
     spans: &[Option<Span>],
     into: &mut Vec<u8>,
@@ -336,7 +318,7 @@ pub(crate) fn write_tail(
     ensures err { OnErr result (into.new.items ≡ into.old.items) }
 {
     let before = into.len();
-    if put_tail(alloc, table, spans, into).is_err() {
+    if put_tail(table, spans, into).is_err() {
         into.truncate(before);
         return Err(AllocError);
     }

@@ -16,6 +16,8 @@ mod convert_calls;
 #[cfg(test)]
 mod fault_calls;
 #[cfg(test)]
+mod gap_calls;
+#[cfg(test)]
 mod replay_calls;
 #[cfg(test)]
 mod report_calls;
@@ -25,3 +27,5 @@ mod selftest_calls;
 mod sure_calls;
 #[cfg(test)]
 mod unroll_calls;
+#[cfg(test)]
+mod whatif_calls;

@@ -10,7 +10,7 @@ use Rattle.std.proofs.Common.{◌≡◌, ◌≤◌, ◌∷◌, lit≤, None, Som
 use Rattle.sag_edge.specs.Contents.{Contents}
 use Rattle.sag_texts.specs.declared.fault.FileKind.{FileKind}
 use Rattle.sag_words.specs.declared.command.Command.{Command}
-use Rattle.sag_words.specs.declared.command.Command.TheVariants.{Analyse, Check, Replay, Report, Convert, Unroll, Audit, Selftest, Attain}
+use Rattle.sag_words.specs.declared.command.Command.TheVariants.{Analyse, Check, Replay, Report, Convert, Unroll, Audit, Selftest, Attain, WhatIf, Gap}
 use Rattle.sag_words.specs.Laws.{OneCommand}
 use Rattle.sag_words.specs.Numbers.{GivesBudget, GivesCores, GivesHorizon}
 use Rattle.sag_words.specs.Words.{Asks, WordsOf}
@@ -36,6 +36,9 @@ use Rattle.sag_engine.proofs.AttainLemmas.{attain_one, attain_reads, one_attain_
 use Rattle.sag_engine.proofs.AuditLemmas.{AuditLaws, audit_one, audit_reads, one_audit_reply}
 use Rattle.sag_engine.proofs.SelftestLemmas.{one_selftest_reply, selftest_one}
 use Rattle.sag_engine.proofs.UnrollLemmas.{TaskLaws, one_unroll_reply, unroll_one, unroll_reads}
+use Rattle.gap_trials.specs.Laws.{OneGap}
+use Rattle.sag_engine.proofs.GapLemmas.{gap_one, gap_reads, one_gap_reply}
+use Rattle.sag_engine.proofs.WhatIfLemmas.{EditLaws, one_whatif_reply, whatif_one, whatif_reads}
 
 -- what other crates prove of words, files and runs
 pub record CommandLaws : Type 0 where
@@ -46,6 +49,8 @@ pub record CommandLaws : Type 0 where
   pub one_run : OneRun
   pub tasks : TaskLaws
   pub audits : AuditLaws
+  pub edits : EditLaws
+  pub one_gap : OneGap
 
 pub command_reads : (c : Command) (m : Option Contents) (k : FileKind) (n : List ℕ) → ReadsNext (command_plan c) m k n → IsAmongFiles (files_of c) k n
 command_reads (Analyse jobs prec cores budget) m k n h = analyse_reads jobs prec cores budget m k n h
@@ -57,6 +62,8 @@ command_reads (Unroll tasks horizon policy) m k n h = unroll_reads tasks horizon
 command_reads (Audit jobs scenario run prec cores) m k n h = audit_reads jobs scenario run prec cores m k n h
 command_reads (Selftest number cores) m k n h = absurd h
 command_reads (Attain jobs task job end budget) m k n h = attain_reads jobs task job end budget m k n h
+command_reads (WhatIf jobs edits prec cores budget) m k n h = whatif_reads jobs edits prec cores budget m k n h
+command_reads (Gap jobs prec cores budget trial) m k n h = gap_reads jobs prec cores budget trial m k n h
 
 -- the number of cores that an option gives
 cores_given : (text : Option (List ℕ)) (cores : ℕ) → GivesCores text cores → (1 ≤ cores) × (cores ≤ MOST_CORES)
@@ -79,6 +86,8 @@ asked_of name rest (Unroll tasks horizon policy) asked = tt
 asked_of name rest (Audit jobs scenario run prec cores) asked = cores_given _ cores asked.2.4
 asked_of name rest (Selftest number cores) asked = cores_given _ cores asked.2.1
 asked_of name rest (Attain jobs task job end budget) asked = tt
+asked_of name rest (WhatIf jobs edits prec cores budget) asked = cores_given _ cores asked.2.3
+asked_of name rest (Gap jobs prec cores budget trial) asked = cores_given _ cores asked.2.2
 
 pub asked_cores : (words : List (List ℕ)) (command : Command) → WordsOf words command → HasCores command
 asked_cores [] command asked = absurd asked
@@ -96,6 +105,8 @@ budget_of name rest (Unroll tasks horizon policy) asked = tt
 budget_of name rest (Audit jobs scenario run prec cores) asked = tt
 budget_of name rest (Selftest number cores) asked = tt
 budget_of name rest (Attain jobs task job end budget) asked = budget_given _ budget asked.2.4
+budget_of name rest (WhatIf jobs edits prec cores budget) asked = budget_given _ budget asked.2.4
+budget_of name rest (Gap jobs prec cores budget trial) asked = budget_given _ budget asked.2.3
 
 pub asked_budget : (words : List (List ℕ)) (command : Command) → WordsOf words command → HasBudget command
 asked_budget [] command asked = absurd asked
@@ -118,6 +129,8 @@ horizon_of name rest (Unroll tasks horizon policy) asked = horizon_given _ horiz
 horizon_of name rest (Audit jobs scenario run prec cores) asked = tt
 horizon_of name rest (Selftest number cores) asked = tt
 horizon_of name rest (Attain jobs task job end budget) asked = tt
+horizon_of name rest (WhatIf jobs edits prec cores budget) asked = tt
+horizon_of name rest (Gap jobs prec cores budget trial) asked = tt
 
 pub asked_horizon : (words : List (List ℕ)) (command : Command) → WordsOf words command → HasHorizon command
 asked_horizon [] command asked = absurd asked
@@ -135,14 +148,18 @@ module _ (laws : CommandLaws) (contents : Contents) where
   command_one (Audit jobs scenario run prec cores) = audit_one laws.files laws.audits contents jobs scenario run prec cores
   command_one (Selftest number cores) = selftest_one contents number cores
   command_one (Attain jobs task job end budget) = attain_one laws.files contents jobs task job end budget
+  command_one (WhatIf jobs edits prec cores budget) = whatif_one laws.files laws.edits contents jobs edits prec cores budget
+  command_one (Gap jobs prec cores budget trial) = gap_one laws.files contents jobs prec cores budget trial
 
-  pub one_reply : (command : Command) (r s : Reply) → Gives (command_plan command) (Some contents) r → Gives (command_plan command) (Some contents) s → r ≡ s
-  one_reply (Analyse jobs prec cores budget) r s a b = one_analysis_reply laws.files contents jobs prec cores budget r s a b
-  one_reply (Check jobs cert prec cores) r s a b = one_certified_reply Checks yes_text (λ table end reply is. is) laws.files laws.certificates contents jobs cert prec cores r s a b
-  one_reply (Replay jobs scenario prec cores) r s a b = one_run_reply laws.files laws.one_run contents jobs scenario prec cores r s a b
-  one_reply (Report jobs cert prec cores tasks) r s a b = one_certified_reply (Reports tasks) (report_bytes tasks) (λ table end reply is. is) laws.files laws.certificates contents jobs cert prec cores r s a b
-  one_reply (Convert cert) r s a b = one_convert_reply laws.conversions contents cert r s a b
-  one_reply (Unroll tasks horizon policy) r s a b = one_unroll_reply laws.tasks contents tasks horizon policy r s a b
-  one_reply (Audit jobs scenario run prec cores) r s a b = one_audit_reply laws.files laws.audits contents jobs scenario run prec cores r s a b
-  one_reply (Selftest number cores) r s a b = one_selftest_reply (Some contents) number cores r s a b
-  one_reply (Attain jobs task job end budget) r s a b = one_attain_reply laws.files contents jobs task job end budget r s a b
+  pub one_reply : (command : Command) → HasCores command → (r s : Reply) → Gives (command_plan command) (Some contents) r → Gives (command_plan command) (Some contents) s → r ≡ s
+  one_reply (Analyse jobs prec cores budget) few r s a b = one_analysis_reply laws.files contents jobs prec cores budget r s a b
+  one_reply (Check jobs cert prec cores) few r s a b = one_certified_reply Checks yes_text (λ table end reply is. is) laws.files laws.certificates contents jobs cert prec cores r s a b
+  one_reply (Replay jobs scenario prec cores) few r s a b = one_run_reply laws.files laws.one_run contents jobs scenario prec cores r s a b
+  one_reply (Report jobs cert prec cores tasks) few r s a b = one_certified_reply (Reports tasks) (report_bytes tasks) (λ table end reply is. is) laws.files laws.certificates contents jobs cert prec cores r s a b
+  one_reply (Convert cert) few r s a b = one_convert_reply laws.conversions contents cert r s a b
+  one_reply (Unroll tasks horizon policy) few r s a b = one_unroll_reply laws.tasks contents tasks horizon policy r s a b
+  one_reply (Audit jobs scenario run prec cores) few r s a b = one_audit_reply laws.files laws.audits contents jobs scenario run prec cores r s a b
+  one_reply (Selftest number cores) few r s a b = one_selftest_reply (Some contents) number cores r s a b
+  one_reply (Attain jobs task job end budget) few r s a b = one_attain_reply laws.files contents jobs task job end budget r s a b
+  one_reply (WhatIf jobs edits prec cores budget) few r s a b = one_whatif_reply laws.files laws.edits contents jobs edits prec cores budget r s a b
+  one_reply (Gap jobs prec cores budget trial) few r s a b = one_gap_reply laws.files laws.one_gap contents jobs prec cores budget trial few.0 r s a b

@@ -19,7 +19,11 @@ mod UnrollLemmas
 mod AuditLemmas
 mod SelftestLemmas
 mod AttainLemmas
+mod WhatIfLemmas
+mod GapLemmas
 mod CommandLemmas
 mod GraphCertificate
+mod WhatIfCertificate
+mod GapMeaning
 mod RunLemmas
 mod OneAnswer

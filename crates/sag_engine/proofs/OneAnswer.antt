@@ -12,7 +12,7 @@ use Rattle.sag_engine.specs.RunEnds.{Gives}
 use Rattle.sag_engine.specs.Laws.{HaveOneEnd, IsAnswered, OneAnswer, SeenCall}
 use Rattle.sag_engine.specs.Promises.{ComesOut, Told, outcome_bytes, outcome_status, outcome_text}
 use Rattle.sag_engine.specs.Promises.Outcome.{NoCommand, Refusal, Output}
-use Rattle.sag_engine.proofs.CommandLemmas.{CommandLaws, command_one, one_reply}
+use Rattle.sag_engine.proofs.CommandLemmas.{CommandLaws, asked_cores, command_one, one_reply}
 
 module _ (laws : CommandLaws) where
   one_command_for : (words : List (List ℕ)) (one other : Command) → WordsOf words one → WordsOf words other → other ≡ one
@@ -39,7 +39,7 @@ module _ (laws : CommandLaws) where
       absurd (cc both)
   one_answer words contents (Output r) (Output s) (command, asked, gives) (command', asked', gives') =
       let same = one_command_for words command command' asked asked' in
-      ap Output (one_reply laws contents command r s gives (subst (λ c. Gives (command_plan c) (Some contents) s) same gives'))
+      ap Output (one_reply laws contents command (asked_cores words command asked) r s gives (subst (λ c. Gives (command_plan c) (Some contents) s) same gives'))
 
 -- two calls that ended with an answer have one end
 pub calls_agree : OneAnswer → (words : List (List ℕ)) (contents : Contents) (one other : SeenCall) → IsAnswered words contents one → IsAnswered words contents other → HaveOneEnd one other

@@ -13,6 +13,8 @@ pub mod Unroll
 pub mod Audit
 pub mod Selftest
 pub mod Attain
+pub mod WhatIf
+pub mod Gap
 pub mod Commands
 pub mod RunEnds
 pub mod Promises

@@ -12,12 +12,15 @@ use Rattle.graph_check.specs.Kept.{Failure}
 use Rattle.job_model.specs.declared.interval_end.End.{End}
 use Rattle.job_model.specs.Table.{Table}
 use Rattle.run_meaning.specs.declared.places.Place.{Place}
+use Rattle.side_csv.specs.declared.edits.JobEdit.{JobEdit}
 
 -- What is to be done: to print the certificate of the graph of a table, on so many cores and within a budget of states; to tell
 -- what a certificate of the table came to, its intervals and marks or the first failure; the run of a scenario on so many cores;
 -- to report of the jobs of a certificate, or of their tasks; to print a certificate that was converted; to print a table as a job
--- file; to tell of a recorded run of a scenario on so many cores; to sum up the graph of a workload on so many cores; or to print
--- the scenario for an end of a job's interval, within a budget of states.
+-- file; to tell of a recorded run of a scenario on so many cores; to sum up the graph of a workload on so many cores; to print the
+-- scenario for an end of a job's interval, within a budget of states; to print the certificate of the graph of a table once edits
+-- of it are made, on so many cores and within such a budget; or to compare the graph of a table with the runs of trials, or to
+-- print the scenario of one trial, on so many cores and within such a budget.
 pub data Work : Type 0 where
   Analyses : Table → ℕ → ℕ → Work
   Checks : Table → Result (List JobEntry) Failure → Work
@@ -28,6 +31,8 @@ pub data Work : Type 0 where
   AuditsRun : Table → ℕ → List (ℕ × ℕ) → List Place → Work
   Selftests : ℕ → ℕ → Work
   Attains : Table → ℕ → End → ℕ → Work
+  WhatIfs : Table → List JobEdit → ℕ → ℕ → Work
+  Gaps : Table → ℕ → ℕ → Option ℕ → Work
 
 -- the bytes that are printed, and how the work ended
 pub record Reply : Type 0 where

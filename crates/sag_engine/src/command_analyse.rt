@@ -61,9 +61,9 @@ fn print_tail<O: Sink>(
     }
 }
 
-// Prints the certificate of the table's graph, each level as soon as it is there and in one text that is used again. Where
-// an offer exceeds the budget, the levels below the one that it leads to stand printed.
-fn print_graph<O: Sink>(
+/// Prints the certificate of the table's graph, each level as soon as it is there and in one text that is used again. Where
+/// an offer exceeds the budget, the levels below the one that it leads to stand printed.
+pub(crate) fn print_graph<O: Sink>(
     alloc: Global,
     out: &mut O,
     table: &JobTable,

@@ -9,7 +9,7 @@ use sag_edge::{FileName, Files, ReadAnswer, TakePiece, pour, read_all};
 use sag_texts::{Fault, FileKind};
 use std::alloc::Global;
 
-/// The most bytes of a job, precedence, scenario, run or task file.
+/// The most bytes of a job, precedence, scenario, run, task or edit file.
 pub const MOST_FILE_BYTES: u64 = 16_777_216;
 
 /// The most bytes of a certificate: 2^40.

@@ -10,7 +10,9 @@ ghost use Rattle.sag_engine.specs.Replay.{PrintsRuns};
 ghost use Rattle.sag_engine.specs.Report.{PrintsReports};
 ghost use Rattle.sag_engine.specs.Attain.{PrintsEnds};
 ghost use Rattle.sag_engine.specs.Audit.{PrintsLegals};
+ghost use Rattle.sag_engine.specs.Gap.{PrintsGaps, PrintsTrials};
 ghost use Rattle.sag_engine.specs.Unroll.{PrintsJobFiles};
+ghost use Rattle.sag_engine.specs.WhatIf.{PrintsWhatIfs};
 ghost use Rattle.sag_engine.specs.RunEnds.{Runs, Works};
 ghost use Rattle.sag_engine.specs.Promises.{Answers, ExplainsFault, HasReadCause, Explains, HasWriteCause, IsDone, KeepsPrefix, KeepsTelling, texts};
 
@@ -19,15 +21,18 @@ use crate::command_attain::run_attain;
 use crate::command_audit::run_audit;
 use crate::command_check::run_check;
 use crate::command_convert::run_convert;
+use crate::command_gap::run_gap;
 use crate::command_replay::run_replay;
 use crate::command_report::run_report;
 use crate::command_selftest::run_selftest;
 use crate::command_unroll::run_unroll;
+use crate::command_whatif::run_whatif;
 use crate::conclusion::Conclusion;
 use crate::explain::explain;
 use crate::halt::Halt;
 use crate::status::{Status, status_of};
 use cert_convert::converted_is_readable;
+use gap_trials::{graph_spans_hold, inner_ends_in_spans, no_gap_on_one_core, trials_fit};
 use graph_check::old_is_valid;
 use graph_memory::job_lines_tell_spans;
 use graph_valid::{graph_is_readable, graph_is_short, graph_is_valid};
@@ -37,6 +42,7 @@ use run_meaning::{one_run, starts_agree};
 use sag_edge::{Files, Sink};
 use sag_words::{Command, WordFault, one_command, read_words};
 use std::alloc::Global;
+use what_if::edits_keep_tables;
 
 // Does what a command asks for.
 fn run_command<F: Files, O: Sink>(
@@ -98,6 +104,20 @@ fn run_command<F: Files, O: Sink>(
             end,
             budget,
         } => run_attain(alloc, files, out, jobs, task, job, end, budget),
+        Command::WhatIf {
+            jobs,
+            edits,
+            prec,
+            cores,
+            budget,
+        } => run_whatif(alloc, files, out, jobs, edits, prec, cores, budget),
+        Command::Gap {
+            jobs,
+            prec,
+            cores,
+            budget,
+            trial,
+        } => run_gap(alloc, files, out, jobs, prec, cores, budget, trial),
     }
 }
 
@@ -139,6 +159,9 @@ pub fn sag_run<F: Files, O: Sink, E: Sink>(
     ensures job_files { PrintsJobFiles (texts words.now) (F.seen files.old) (O.seen out.old) (O.seen out.new) result }
     ensures legals { PrintsLegals (texts words.now) (F.seen files.old) (O.seen out.old) (O.seen out.new) result }
     ensures ends { PrintsEnds (texts words.now) (F.seen files.old) (O.seen out.old) (O.seen out.new) result }
+    ensures what_ifs { PrintsWhatIfs (texts words.now) (F.seen files.old) (O.seen out.old) (O.seen out.new) result }
+    ensures gaps { PrintsGaps (texts words.now) (F.seen files.old) (O.seen out.old) (O.seen out.new) result }
+    ensures trials { PrintsTrials (texts words.now) (F.seen files.old) (O.seen out.old) (O.seen out.new) result }
     ensures certificates { PrintsCertificates (texts words.now) (F.seen files.old) (O.seen out.old) (O.seen out.new) result }
     ensures finished { IsDone result → IsTrue (O.seen out.new).finished }
     ensures read_fault { HasReadCause (texts words.now) (F.seen files.old) (F.seen files.new) result }
@@ -169,6 +192,11 @@ pub fn sag_run<F: Files, O: Sink, E: Sink>(
     graph_is_short();
     ends_are_attained();
     job_lines_tell_spans();
+    edits_keep_tables();
+    trials_fit();
+    graph_spans_hold();
+    inner_ends_in_spans();
+    no_gap_on_one_core();
     let end = work(alloc, words, files, out);
     explain(err, &end);
     status_of(&end)

@@ -13,6 +13,7 @@
 --   edge_fault_text   why the rows of the precedence file are no edges of a job table
 --   side_fault_text   why a file beside the job file is refused
 --   task_fault_text   why tasks are refused, or the jobs that they make
+--   no_trial          there is no trial of a number
 --   fault_text        the text of a fault
 --   has_text          every fault has a text, but a job without a row, which is told by its IDs
 --   HasText           the same as a fact
@@ -31,7 +32,7 @@ use Rattle.task_unroll.specs.declared.fault.TaskFault.{TaskFault}
 use Rattle.task_unroll.specs.declared.fault.TaskFault.TheVariants as task
 use Rattle.sag_texts.specs.declared.usage.TheConstants.{USAGE}
 use Rattle.sag_texts.specs.declared.fault.FileKind.{FileKind}
-use Rattle.sag_texts.specs.declared.fault.FileKind.TheVariants.{Jobs, Scenario, Precedence, Certificate, Run, Tasks}
+use Rattle.sag_texts.specs.declared.fault.FileKind.TheVariants.{Jobs, Scenario, Precedence, Certificate, Run, Tasks, Edits}
 use Rattle.sag_texts.specs.declared.fault.Fault.{Fault}
 use Rattle.sag_texts.specs.declared.fault.Fault.TheVariants as fault
 
@@ -47,6 +48,7 @@ file_word Precedence = codes "precedence"
 file_word Certificate = codes "certificate"
 file_word Run = codes "run"
 file_word Tasks = codes "tasks"
+file_word Edits = codes "edits"
 
 -- why a file is refused
 unfoldable pub refusal : FileKind → List (List ℕ) → List ℕ
@@ -122,6 +124,10 @@ task_fault_text (task.Late row) = row_refusal Tasks row (codes " releases too la
 task_fault_text task.TooMany = refusal Tasks (codes " too many jobs" ∷ [])
 task_fault_text task.Memory = no_memory
 
+-- there is no trial of this number, which is above the greatest
+unfoldable pub no_trial : ℕ → ℕ → List ℕ
+no_trial trial most = line (codes "refused trial " ∷ decimal trial ∷ codes " is above " ∷ decimal most ∷ [])
+
 -- the text of a fault
 unfoldable pub fault_text : Fault → List ℕ
 fault_text fault.Usage = usage_text
@@ -134,6 +140,7 @@ fault_text (fault.NoRow file task job) = refusal file (codes " has no row for jo
 fault_text (fault.Text line byte) = refusal Certificate (codes " line " ∷ decimal line ∷ codes " byte " ∷ decimal byte ∷ [])
 fault_text (fault.NoJob task job) = line (codes "refused job " ∷ decimal task ∷ codes " " ∷ decimal job ∷ codes " is not in the table" ∷ [])
 fault_text (fault.Tasks why) = task_fault_text why
+fault_text (fault.NoTrial trial most) = no_trial trial most
 fault_text (fault.CannotRead file) = line (codes "cannot read " ∷ file_word file ∷ [])
 fault_text fault.CannotWrite = line (codes "cannot write" ∷ [])
 fault_text fault.NoMemory = no_memory

@@ -14,6 +14,7 @@ pub enum FileKind {
     Certificate,
     Run,
     Tasks,
+    Edits,
 }
 
 /// Why there is no answer. Rows are counted from 1, after the heading, and columns from 1.
@@ -40,6 +41,8 @@ pub enum Fault {
     NoJob(u64, u64),
     /// The tasks of the tasks file are refused, or the jobs that they make.
     Tasks(TaskFault),
+    /// There is no trial of this number: the greatest that there is.
+    NoTrial { trial: u32, most: u32 },
     /// Reading the file failed.
     CannotRead(FileKind),
     /// Writing the answer failed.

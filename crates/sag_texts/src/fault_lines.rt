@@ -1,7 +1,7 @@
 //! The line of each fault.
 
 ghost use Rattle.sag_edge.specs.Writing.{Puts};
-ghost use Rattle.sag_texts.specs.FaultTexts.{HasText, csv_fault_text, edge_fault_text, fault_text, no_memory, side_fault_text, spent_text, table_fault_text, task_fault_text};
+ghost use Rattle.sag_texts.specs.FaultTexts.{HasText, csv_fault_text, edge_fault_text, fault_text, no_memory, no_trial, side_fault_text, spent_text, table_fault_text, task_fault_text};
 
 use crate::piece::Piece::{File, Number, Words};
 use crate::piece::write_line;
@@ -131,6 +131,19 @@ fn write_task_fault<S: Sink>(sink: &mut S, why: &TaskFault) -> Result<(), Failed
     }
 }
 
+// Tells that there is no trial of this number.
+#[tactic(auto, unfolding(crate::specs::FaultTexts::no_trial))]
+fn write_no_trial<S: Sink>(sink: &mut S, trial: u32, most: u32) -> Result<(), Failed>
+    ensures { Puts (S.seen sink.old) (S.seen sink.new) (no_trial trial most) result }
+{
+    let trial = Number(u64::from(trial));
+    let most = Number(u64::from(most));
+    write_line(
+        sink,
+        &[Words("refused trial "), trial, Words(" is above "), most],
+    )
+}
+
 /// Writes the line of a fault. It takes no memory.
 ///
 /// A `SideFault::Missing` has the number of a job, which no text names: give `Fault::NoRow` with the job's IDs.
@@ -165,6 +178,7 @@ pub fn write_fault<S: Sink>(sink: &mut S, fault: &Fault) -> Result<(), Failed>
             write_line(sink, &[Words("refused job "), task, Words(" "), job, rest])
         }
         Fault::Tasks(why) => write_task_fault(sink, why),
+        Fault::NoTrial { trial, most } => write_no_trial(sink, *trial, *most),
         Fault::CannotRead(file) => write_line(sink, &[Words("cannot read "), File(*file)]),
         Fault::CannotWrite => write_line(sink, &[Words("cannot write")]),
         Fault::NoMemory => write_no_memory(sink),

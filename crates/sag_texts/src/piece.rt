@@ -30,6 +30,7 @@ impl FileKind {
             FileKind::Certificate => "certificate",
             FileKind::Run => "run",
             FileKind::Tasks => "tasks",
+            FileKind::Edits => "edits",
         }
     }
 }

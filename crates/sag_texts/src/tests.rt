@@ -1,6 +1,6 @@
 ghost use Rattle.sag_texts.specs.FaultTexts.{HasText};
 
-use crate::FileKind::{Jobs, Precedence, Run, Scenario, Tasks};
+use crate::FileKind::{Edits, Jobs, Precedence, Run, Scenario, Tasks};
 use crate::{Fault, USAGE, write_fault, write_spent};
 use csv_numbers::CsvFault;
 use job_model::{EdgeFault, TableFault};
@@ -36,6 +36,8 @@ fn tells_faults(rt: HostRuntime) -> Result<(), Fail> {
     is_told(&rt, a, no_job, Fault::NoJob(1, u64::MAX))?;
     is_told(&rt, a, "cannot read jobs", Fault::CannotRead(Jobs))?;
     is_told(&rt, a, "cannot read run", Fault::CannotRead(Run))?;
+    let trial = Fault::NoTrial { trial: 10, most: 9 };
+    is_told(&rt, a, "refused trial 10 is above 9", trial)?;
     is_told(&rt, a, "cannot write", Fault::CannotWrite)?;
     is_told(&rt, a, "no memory", Fault::NoMemory)
 }
@@ -110,12 +112,10 @@ fn tells_side_faults(rt: HostRuntime) -> Result<(), Fail> {
     let twice = Fault::Side(Scenario, SideFault::Twice(2, 1));
     is_told(&rt, a, "refused scenario row 2 repeats row 1", twice)?;
     let outside = Fault::Side(Scenario, SideFault::Outside(1, 3));
-    is_told(
-        &rt,
-        a,
-        "refused scenario row 1 column 3 is outside",
-        outside,
-    )
+    let line = "refused scenario row 1 column 3 is outside";
+    is_told(&rt, a, line, outside)?;
+    let outside = Fault::Side(Edits, SideFault::Outside(2, 4));
+    is_told(&rt, a, "refused edits row 2 column 4 is outside", outside)
 }
 
 #[test]

@@ -17,6 +17,8 @@ usage: sag analyse JOBS [--prec FILE] [--cores N] [--budget N]
        sag convert CERT
        sag audit JOBS SCENARIO RUN [--prec FILE] [--cores N]
        sag unroll TASKS HORIZON POLICY
+       sag whatif JOBS EDITS [--prec FILE] [--cores N] [--budget N]
+       sag gap JOBS [--prec FILE] [--cores N] [--budget N] [--trial K]
 ";
 
 /// Writes the usage.

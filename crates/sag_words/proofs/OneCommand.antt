@@ -1,5 +1,5 @@
 -- Words ask for at most one command.
-use Rattle.std.proofs.Common.{◌≡◌, ◌∙◌, ℕ, Bool, List, [], ◌∷◌, Option, Some, None, refl, sym}
+use Rattle.std.proofs.Common.{◌≡◌, ◌∙◌, ℕ, Bool, List, [], ◌∷◌, Option, Some, None, ap, refl, sym}
 use Rattle.clap.specs.Words.{Text}
 use Rattle.sag_words.specs.Apps.{Values, value_at}
 use Rattle.sag_words.specs.Analyse.{analyse_app}
@@ -7,14 +7,16 @@ use Rattle.sag_words.specs.Attain.{attain_app}
 use Rattle.sag_words.specs.Audit.{audit_app}
 use Rattle.sag_words.specs.Check.{check_app}
 use Rattle.sag_words.specs.Convert.{convert_app}
+use Rattle.sag_words.specs.Gap.{gap_app}
 use Rattle.sag_words.specs.Replay.{replay_app}
 use Rattle.sag_words.specs.Report.{report_app}
 use Rattle.sag_words.specs.Laws.{OneCommand}
 use Rattle.sag_words.specs.Ends.{GivesEnd, end_word}
-use Rattle.sag_words.specs.Numbers.{GivesBudget, GivesCores, GivesHorizon, GivesNumber}
+use Rattle.sag_words.specs.Numbers.{GivesBudget, GivesCores, GivesHorizon, GivesNumber, GivesTrial}
 use Rattle.sag_words.specs.Policies.{GivesPolicy, policy_word}
 use Rattle.sag_words.specs.Selftest.{selftest_app}
 use Rattle.sag_words.specs.Unroll.{unroll_app}
+use Rattle.sag_words.specs.WhatIf.{whatif_app}
 use Rattle.sag_words.specs.Words.{Asks, HasValues, name_of}
 use Rattle.sag_words.proofs.WordLemmas.{names_differ}
 use Rattle.job_model.specs.declared.interval_end.End.{End}
@@ -22,7 +24,7 @@ use Rattle.job_model.specs.declared.interval_end.End.TheVariants.{Best, Worst}
 use Rattle.task_unroll.specs.declared.task.Policy.{Policy}
 use Rattle.task_unroll.specs.declared.task.Policy.TheVariants.{Rate, Deadline, Edf}
 use Rattle.sag_words.specs.declared.command.Command.{Command}
-use Rattle.sag_words.specs.declared.command.Command.TheVariants.{Analyse, Check, Replay, Attain, Report, Selftest, Convert, Audit, Unroll}
+use Rattle.sag_words.specs.declared.command.Command.TheVariants.{Analyse, Check, Replay, Attain, Report, Selftest, Convert, Audit, Unroll, WhatIf, Gap}
 
 -- a text gives one number of cores
 same_cores : (text : Option Text) (one other : ℕ) → GivesCores text one → GivesCores text other → one ≡ other
@@ -47,6 +49,13 @@ same_number (Some text) one other g h = sym g.value ∙ h.value
 same_horizon : (text : Option Text) (one other : ℕ) → GivesHorizon text one → GivesHorizon text other → one ≡ other
 same_horizon None one other g h = absurd g
 same_horizon (Some text) one other g h = sym g.0.value ∙ h.0.value
+
+-- and one trial
+same_trial : (text : Option Text) (one other : Option ℕ) → GivesTrial text one → GivesTrial text other → one ≡ other
+same_trial None one other g h = g ∙ sym h
+same_trial (Some text) None other g h = absurd g
+same_trial (Some text) (Some one) None g h = absurd h
+same_trial (Some text) (Some one) (Some other) g h = ap Some (sym g.0.value ∙ h.0.value)
 
 -- ends of one spelling are one end
 same_end_word : (one other : End) → end_word one ≡ end_word other → one ≡ other
@@ -156,6 +165,28 @@ same_unroll given tasks horizon policy tasks' horizon' policy' g h =
     let policy_is = same_policy _ policy policy' g.2 h.2 in
     rw (tasks_are, horizon_is, policy_is) refl
 
+same_whatif : (given : Values) (jobs edits : Text) (prec : Option Text) (cores budget : ℕ) (jobs' edits' : Text) (prec' : Option Text) (cores' budget' : ℕ)
+    → HasValues given (WhatIf jobs edits prec cores budget) → HasValues given (WhatIf jobs' edits' prec' cores' budget')
+    → WhatIf jobs edits prec cores budget ≡ WhatIf jobs' edits' prec' cores' budget'
+same_whatif given jobs edits prec cores budget jobs' edits' prec' cores' budget' g h =
+    let jobs_are = same_value _ jobs jobs' g.0 h.0 in
+    let edits_are = same_value _ edits edits' g.1 h.1 in
+    let prec_is : prec ≡ prec' = sym g.2 ∙ h.2 in
+    let cores_are = same_cores _ cores cores' g.3 h.3 in
+    let budget_is = same_budget _ budget budget' g.4 h.4 in
+    rw (jobs_are, edits_are, prec_is, cores_are, budget_is) refl
+
+same_gap : (given : Values) (jobs : Text) (prec : Option Text) (cores budget : ℕ) (trial : Option ℕ) (jobs' : Text) (prec' : Option Text) (cores' budget' : ℕ) (trial' : Option ℕ)
+    → HasValues given (Gap jobs prec cores budget trial) → HasValues given (Gap jobs' prec' cores' budget' trial')
+    → Gap jobs prec cores budget trial ≡ Gap jobs' prec' cores' budget' trial'
+same_gap given jobs prec cores budget trial jobs' prec' cores' budget' trial' g h =
+    let jobs_are = same_value _ jobs jobs' g.0 h.0 in
+    let prec_is : prec ≡ prec' = sym g.1 ∙ h.1 in
+    let cores_are = same_cores _ cores cores' g.2 h.2 in
+    let budget_is = same_budget _ budget budget' g.3 h.3 in
+    let trial_is = same_trial _ trial trial' g.4 h.4 in
+    rw (jobs_are, prec_is, cores_are, budget_is, trial_is) refl
+
 same_command : (name : Text) (rest : List Text) (one other : Command) → Asks name rest one → Asks name rest other → one ≡ other
 unfolding Asks
 same_command name rest (Analyse jobs prec cores budget) (Analyse jobs' prec' cores' budget') g h =
@@ -175,6 +206,10 @@ same_command name rest (Audit jobs scenario run prec cores) (Audit jobs' scenari
     same_audit (value_at audit_app rest) jobs scenario run prec cores jobs' scenario' run' prec' cores' g.2 h.2
 same_command name rest (Unroll tasks horizon policy) (Unroll tasks' horizon' policy') g h =
     same_unroll (value_at unroll_app rest) tasks horizon policy tasks' horizon' policy' g.2 h.2
+same_command name rest (WhatIf jobs edits prec cores budget) (WhatIf jobs' edits' prec' cores' budget') g h =
+    same_whatif (value_at whatif_app rest) jobs edits prec cores budget jobs' edits' prec' cores' budget' g.2 h.2
+same_command name rest (Gap jobs prec cores budget trial) (Gap jobs' prec' cores' budget' trial') g h =
+    same_gap (value_at gap_app rest) jobs prec cores budget trial jobs' prec' cores' budget' trial' g.2 h.2
 same_command name rest one other g h = absurd (names_differ (name_of one) (name_of other) refl (sym g.0 ∙ h.0))
 
 pub one_command : OneCommand

@@ -11,15 +11,17 @@ use Rattle.sag_words.specs.Attain.{attain_app}
 use Rattle.sag_words.specs.Audit.{audit_app}
 use Rattle.sag_words.specs.Check.{check_app}
 use Rattle.sag_words.specs.Convert.{convert_app}
+use Rattle.sag_words.specs.Gap.{gap_app}
 use Rattle.sag_words.specs.Replay.{replay_app}
 use Rattle.sag_words.specs.Report.{report_app}
 use Rattle.sag_words.specs.Selftest.{selftest_app}
 use Rattle.sag_words.specs.Unroll.{unroll_app}
+use Rattle.sag_words.specs.WhatIf.{whatif_app}
 use Rattle.sag_words.specs.Words.{Asks, HasValues, name_of}
 use Rattle.job_model.specs.declared.interval_end.End.{End}
 use Rattle.task_unroll.specs.declared.task.Policy.{Policy}
 use Rattle.sag_words.specs.declared.command.Command.{Command}
-use Rattle.sag_words.specs.declared.command.Command.TheVariants.{Analyse, Check, Replay, Attain, Report, Selftest, Convert, Audit, Unroll}
+use Rattle.sag_words.specs.declared.command.Command.TheVariants.{Analyse, Check, Replay, Attain, Report, Selftest, Convert, Audit, Unroll, WhatIf, Gap}
 
 -- what a getter reads is the value of the argument
 pub value_read : (app : App) (words : List Text) (found : Found) (id : Text) (read : Option (Bor Text))
@@ -107,17 +109,35 @@ unfolding Asks
 unroll_refused rest none (Unroll tasks horizon policy) asks = none tasks horizon policy asks.1 asks.2
 unroll_refused rest none other asks = names_differ (codes "unroll") (name_of other) refl asks.0
 
+-- nor do words that give no `whatif`
+pub whatif_refused : (rest : List Text)
+    → ((jobs edits : Text) (prec : Option Text) (cores budget : ℕ) → IsInGrammar whatif_app rest → HasValues (value_at whatif_app rest) (WhatIf jobs edits prec cores budget) → ⊥)
+    → (command : Command) → Asks (codes "whatif") rest command → ⊥
+unfolding Asks
+whatif_refused rest none (WhatIf jobs edits prec cores budget) asks = none jobs edits prec cores budget asks.1 asks.2
+whatif_refused rest none other asks = names_differ (codes "whatif") (name_of other) refl asks.0
+
+-- nor do words that give no `gap`
+pub gap_refused : (rest : List Text)
+    → ((jobs : Text) (prec : Option Text) (cores budget : ℕ) (trial : Option ℕ) → IsInGrammar gap_app rest → HasValues (value_at gap_app rest) (Gap jobs prec cores budget trial) → ⊥)
+    → (command : Command) → Asks (codes "gap") rest command → ⊥
+unfolding Asks
+gap_refused rest none (Gap jobs prec cores budget trial) asks = none jobs prec cores budget trial asks.1 asks.2
+gap_refused rest none other asks = names_differ (codes "gap") (name_of other) refl asks.0
+
 -- a name that is no command's asks for nothing
 pub unknown_refused : (name : Text) (rest : List Text) → (name ≡ codes "analyse" → ⊥) → (name ≡ codes "check" → ⊥) → (name ≡ codes "replay" → ⊥) → (name ≡ codes "attain" → ⊥) → (name ≡ codes "report" → ⊥)
-    → (name ≡ codes "selftest" → ⊥) → (name ≡ codes "convert" → ⊥) → (name ≡ codes "audit" → ⊥) → (name ≡ codes "unroll" → ⊥)
+    → (name ≡ codes "selftest" → ⊥) → (name ≡ codes "convert" → ⊥) → (name ≡ codes "audit" → ⊥) → (name ≡ codes "unroll" → ⊥) → (name ≡ codes "whatif" → ⊥) → (name ≡ codes "gap" → ⊥)
     → (command : Command) → Asks name rest command → ⊥
 unfolding Asks
-unknown_refused name rest analyse check replay attain report selftest convert audit unroll (Analyse jobs prec cores budget) asks = analyse asks.0
-unknown_refused name rest analyse check replay attain report selftest convert audit unroll (Check jobs cert prec cores) asks = check asks.0
-unknown_refused name rest analyse check replay attain report selftest convert audit unroll (Replay jobs scenario prec cores) asks = replay asks.0
-unknown_refused name rest analyse check replay attain report selftest convert audit unroll (Attain jobs task job end budget) asks = attain asks.0
-unknown_refused name rest analyse check replay attain report selftest convert audit unroll (Report jobs cert prec cores tasks) asks = report asks.0
-unknown_refused name rest analyse check replay attain report selftest convert audit unroll (Selftest number cores) asks = selftest asks.0
-unknown_refused name rest analyse check replay attain report selftest convert audit unroll (Convert cert) asks = convert asks.0
-unknown_refused name rest analyse check replay attain report selftest convert audit unroll (Audit jobs scenario run prec cores) asks = audit asks.0
-unknown_refused name rest analyse check replay attain report selftest convert audit unroll (Unroll tasks horizon policy) asks = unroll asks.0
+unknown_refused name rest analyse check replay attain report selftest convert audit unroll whatif gap (Analyse jobs prec cores budget) asks = analyse asks.0
+unknown_refused name rest analyse check replay attain report selftest convert audit unroll whatif gap (Check jobs cert prec cores) asks = check asks.0
+unknown_refused name rest analyse check replay attain report selftest convert audit unroll whatif gap (Replay jobs scenario prec cores) asks = replay asks.0
+unknown_refused name rest analyse check replay attain report selftest convert audit unroll whatif gap (Attain jobs task job end budget) asks = attain asks.0
+unknown_refused name rest analyse check replay attain report selftest convert audit unroll whatif gap (Report jobs cert prec cores tasks) asks = report asks.0
+unknown_refused name rest analyse check replay attain report selftest convert audit unroll whatif gap (Selftest number cores) asks = selftest asks.0
+unknown_refused name rest analyse check replay attain report selftest convert audit unroll whatif gap (Convert cert) asks = convert asks.0
+unknown_refused name rest analyse check replay attain report selftest convert audit unroll whatif gap (Audit jobs scenario run prec cores) asks = audit asks.0
+unknown_refused name rest analyse check replay attain report selftest convert audit unroll whatif gap (Unroll tasks horizon policy) asks = unroll asks.0
+unknown_refused name rest analyse check replay attain report selftest convert audit unroll whatif gap (WhatIf jobs edits prec cores budget) asks = whatif asks.0
+unknown_refused name rest analyse check replay attain report selftest convert audit unroll whatif gap (Gap jobs prec cores budget trial) asks = gap asks.0

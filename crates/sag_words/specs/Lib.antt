@@ -12,5 +12,7 @@ pub mod Selftest
 pub mod Convert
 pub mod Audit
 pub mod Unroll
+pub mod WhatIf
+pub mod Gap
 pub mod Words
 pub mod Laws

@@ -3,7 +3,8 @@
 --   GivesHorizon   the text of a place gives this horizon
 --   GivesCores     the text of `--cores`, where there is one, gives this number of cores
 --   GivesBudget    the text of `--budget`, where there is one, gives this budget
-use Rattle.std.specs.Prelude.{◌≡◌, ◌≤◌, ℕ, Option, None, Some}
+--   GivesTrial     the text of `--trial`, where there is one, gives the number of this trial
+use Rattle.std.specs.Prelude.{◌≡◌, ◌≤◌, ◌<◌, ◌^◌, ℕ, Option, None, Some}
 use Rattle.clap.specs.Words.{Text}
 use Rattle.csv_numbers.specs.Fields.{Spells}
 use Rattle.job_model.specs.declared.limits.TheConstants.{MOST_CORES}
@@ -30,3 +31,9 @@ GivesCores (Some text) cores = Spells text cores × (1 ≤ cores) × (cores ≤ 
 abbrev pub GivesBudget : Option Text → ℕ → Type 0
 GivesBudget None budget = budget ≡ DEFAULT_BUDGET
 GivesBudget (Some text) budget = Spells text budget × (1 ≤ budget) × (budget ≤ MOST_BUDGET)
+
+-- the text spells a number of 32 bits, as a field of a CSV file does; without a text there is none
+abbrev pub GivesTrial : Option Text → Option ℕ → Type 0
+GivesTrial None trial = trial ≡ None
+GivesTrial (Some text) None = ⊥
+GivesTrial (Some text) (Some trial) = Spells text trial × (trial < 2 ^ 32)

@@ -12,12 +12,14 @@ use Rattle.sag_words.specs.Attain.{HasAttainValues, attain_app}
 use Rattle.sag_words.specs.Audit.{HasAuditValues, audit_app}
 use Rattle.sag_words.specs.Check.{HasCheckValues, check_app}
 use Rattle.sag_words.specs.Convert.{HasConvertValues, convert_app}
+use Rattle.sag_words.specs.Gap.{HasGapValues, gap_app}
 use Rattle.sag_words.specs.Replay.{HasReplayValues, replay_app}
 use Rattle.sag_words.specs.Report.{HasReportValues, report_app}
 use Rattle.sag_words.specs.Selftest.{HasSelftestValues, selftest_app}
 use Rattle.sag_words.specs.Unroll.{HasUnrollValues, unroll_app}
+use Rattle.sag_words.specs.WhatIf.{HasWhatIfValues, whatif_app}
 use Rattle.sag_words.specs.declared.command.Command.{Command}
-use Rattle.sag_words.specs.declared.command.Command.TheVariants.{Analyse, Check, Replay, Attain, Report, Selftest, Convert, Audit, Unroll}
+use Rattle.sag_words.specs.declared.command.Command.TheVariants.{Analyse, Check, Replay, Attain, Report, Selftest, Convert, Audit, Unroll, WhatIf, Gap}
 
 -- how a command is spelled
 abbrev pub name_of : Command → Text
@@ -30,6 +32,8 @@ name_of (Selftest number cores) = codes "selftest"
 name_of (Convert cert) = codes "convert"
 name_of (Audit jobs scenario run prec cores) = codes "audit"
 name_of (Unroll tasks horizon policy) = codes "unroll"
+name_of (WhatIf jobs edits prec cores budget) = codes "whatif"
+name_of (Gap jobs prec cores budget trial) = codes "gap"
 
 -- the grammar of its words
 abbrev pub app_of_command : Command → App
@@ -42,6 +46,8 @@ app_of_command (Selftest number cores) = selftest_app
 app_of_command (Convert cert) = convert_app
 app_of_command (Audit jobs scenario run prec cores) = audit_app
 app_of_command (Unroll tasks horizon policy) = unroll_app
+app_of_command (WhatIf jobs edits prec cores budget) = whatif_app
+app_of_command (Gap jobs prec cores budget trial) = gap_app
 
 -- the values are those of this command
 abbrev pub HasValues : Values → Command → Type 0
@@ -54,6 +60,8 @@ HasValues given (Selftest number cores) = HasSelftestValues given number cores
 HasValues given (Convert cert) = HasConvertValues given cert
 HasValues given (Audit jobs scenario run prec cores) = HasAuditValues given jobs scenario run prec cores
 HasValues given (Unroll tasks horizon policy) = HasUnrollValues given tasks horizon policy
+HasValues given (WhatIf jobs edits prec cores budget) = HasWhatIfValues given jobs edits prec cores budget
+HasValues given (Gap jobs prec cores budget trial) = HasGapValues given jobs prec cores budget trial
 
 -- the name is that of this command, and the words after it are in its grammar and give its values
 unfoldable pub Asks : Text → List Text → Command → Type 0

@@ -67,4 +67,22 @@ pub enum Command {
         horizon: u64,
         policy: Policy,
     },
+    /// `whatif JOBS EDITS [--prec FILE] [--cores N] [--budget N]`: the certificate of the graph once costs and deadlines
+    /// are edited, within a budget of states.
+    WhatIf {
+        jobs: FileName,
+        edits: FileName,
+        prec: Option<FileName>,
+        cores: u16,
+        budget: u32,
+    },
+    /// `gap JOBS [--prec FILE] [--cores N] [--budget N] [--trial K]`: each job's interval beside the finishes that trials
+    /// attain, or the scenario of one trial.
+    Gap {
+        jobs: FileName,
+        prec: Option<FileName>,
+        cores: u16,
+        budget: u32,
+        trial: Option<u32>,
+    },
 }

@@ -6,16 +6,17 @@ mod attain;
 mod audit;
 mod check;
 mod command;
+#[cfg(test)]
+mod command_told;
 mod convert;
 mod ends;
 mod fault;
 mod flags;
+mod gap;
 mod laws;
 mod names;
 mod numbers;
 mod parse;
-#[cfg(test)]
-mod place_tests;
 mod policies;
 mod replay;
 mod report;
@@ -23,6 +24,7 @@ mod selftest;
 #[cfg(test)]
 mod tests;
 mod unroll;
+mod what_if;
 mod words;
 
 pub use command::Command;

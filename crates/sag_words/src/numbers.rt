@@ -1,7 +1,7 @@
 //! The numbers of places and options.
 
-ghost use Rattle.std.specs.Prelude.{ℕ, MatchOption, option_map};
-ghost use Rattle.sag_words.specs.Numbers.{GivesBudget, GivesCores, GivesHorizon, GivesNumber};
+ghost use Rattle.std.specs.Prelude.{ℕ, MatchOption, Option, option_map};
+ghost use Rattle.sag_words.specs.Numbers.{GivesBudget, GivesCores, GivesHorizon, GivesNumber, GivesTrial};
 
 use csv_numbers::read_number;
 use job_model::MOST_CORES;
@@ -63,6 +63,23 @@ pub(crate) fn horizon_of(text: Option<&str>) -> Option<u64>
     let horizon = read_number(text?.as_bytes()).ok()?;
     if 1 <= horizon && horizon <= MOST_HORIZON {
         Some(horizon)
+    } else {
+        None
+    }
+}
+
+/// The number of a trial that an option gives: one of 32 bits, and none where it is not given.
+pub(crate) fn trial_of(text: Option<&str>) -> Option<Option<u32>>
+    ensures { MatchOption result
+        ((trial : Option ℕ) → ¬ GivesTrial (option_map (λ text. text.now) text.entry) trial)
+        (GivesTrial (option_map (λ text. text.now) text.entry)) }
+{
+    let Some(text) = text else {
+        return Some(None);
+    };
+    let number = read_number(text.as_bytes()).ok()?;
+    if number <= u64::from(u32::MAX) {
+        Some(Some(number as u32))
     } else {
         None
     }

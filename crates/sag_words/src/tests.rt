@@ -1,163 +1,273 @@
-use crate::{Command, DEFAULT_BUDGET, WordFault, one_command, read_words};
-use sag_edge::FileName;
+//! Command lines, and what they ask for.
+
+use crate::command_told::told;
+use crate::{WordFault, one_command, read_words};
 use std::alloc::{AllocError, Global};
 
-// Puts the words at the end of a command line.
-fn put(alloc: Global, line: &mut Vec<String>, words: &[&str]) -> Result<(), AllocError> {
-    for word in words {
-        line.push(String::from_str(alloc, word)?)?;
+// A command line, with a bar between its words, and what it asks for. A command is told by its name, its files in brackets,
+// its numbers and its words; `-` stands for what is not given.
+type Case<'a> = (&'a str, &'a str);
+
+// The words of a command line.
+fn words_of(alloc: Global, line: &str) -> Result<Vec<String>, AllocError> {
+    let mut words = Vec::new(alloc);
+    for word in line.split('|') {
+        words.push(String::from_str(alloc, word)?)?;
     }
+    Ok(words)
+}
+
+// Whether the words ask for what is told so.
+fn asks(alloc: Global, words: &[String], want: &str) -> Result<bool, AllocError> {
+    match read_words(alloc, words) {
+        Ok(command) => {
+            let told = told(alloc, &command)?;
+            Ok(told.as_str() == want)
+        }
+        Err(WordFault::Usage) => Ok(want == "usage"),
+        Err(WordFault::Memory) => Ok(false),
+    }
+}
+
+// The line of the first case that is not so.
+fn first_wrong<'a>(alloc: Global, cases: &[Case<'a>]) -> Result<Option<&'a str>, AllocError> {
+    for (line, want) in cases {
+        let words = words_of(alloc, line)?;
+        if !asks(alloc, &words, want)? {
+            return Ok(Some(line));
+        }
+    }
+    Ok(None)
+}
+
+#[test]
+fn takes_places_and_options(rt: HostRuntime) -> Result<(), AllocError> {
+    one_command();
+    let cases: [Case<'_>; 22] = [
+        ("sag|replay|J|S", "replay [J] [S] - 1"),
+        ("sag|replay|help|S", "replay [help] [S] - 1"),
+        ("sag|replay| J|S\t", "replay [ J] [S\t] - 1"),
+        // Two files of one name, and the empty word and `-` as names.
+        ("sag|replay|J|J|--prec|J", "replay [J] [J] [J] 1"),
+        ("sag|replay||-|--prec=", "replay [] [-] [] 1"),
+        ("sag|replay|-||--prec|", "replay [-] [] [] 1"),
+        ("sag|replay|J|S|--prec|-", "replay [J] [S] [-] 1"),
+        // Options stand before, between and after the places.
+        ("sag|replay|--prec|P|J|S", "replay [J] [S] [P] 1"),
+        ("sag|replay|J|--cores|2|S", "replay [J] [S] - 2"),
+        ("sag|replay|J|S|--cores|2", "replay [J] [S] - 2"),
+        ("sag|replay|J|--cores=7|S|--prec|P", "replay [J] [S] [P] 7"),
+        ("sag|replay|J|S|--prec=a=b", "replay [J] [S] [a=b] 1"),
+        ("sag|replay|J|S|--prec=-x", "replay [J] [S] [-x] 1"),
+        ("sag|replay|J|S|--prec=--", "replay [J] [S] [--] 1"),
+        // After `--` each word is for a place.
+        ("sag|replay|--|--cores|-x", "replay [--cores] [-x] - 1"),
+        ("sag|replay|J|--|--", "replay [J] [--] - 1"),
+        ("sag|replay|J|--|S", "replay [J] [S] - 1"),
+        (
+            "sag|replay|--cores|2|--|J|--help",
+            "replay [J] [--help] - 2",
+        ),
+        // Numbers.
+        ("sag|replay|J|S|--cores|1", "replay [J] [S] - 1"),
+        ("sag|replay|J|S|--cores|256", "replay [J] [S] - 256"),
+        ("sag|replay|J|S|--cores|007", "replay [J] [S] - 7"),
+        (
+            "sag|replay|J|S|--cores|00000000000000000000256",
+            "replay [J] [S] - 256",
+        ),
+    ];
+    assert_eq!(rt; first_wrong(rt.alloc(), &cases)?, None);
     Ok(())
 }
 
-// The words of `sag` and that command, with these after them.
-pub(crate) fn line_of(alloc: Global, name: &str, rest: &[&str]) -> Result<Vec<String>, AllocError> {
-    let mut line = Vec::new(alloc);
-    put(alloc, &mut line, &["sag", name])?;
-    put(alloc, &mut line, rest)?;
-    Ok(line)
-}
-
-// A command by its name, two files, a precedence file and a number of cores.
-type Asked<'a> = (&'a str, &'a str, &'a str, Option<&'a str>, u16);
-
-// Whether these are what is wanted.
-fn are(
-    name: &str,
-    first: &FileName,
-    second: &FileName,
-    prec: &Option<FileName>,
-    cores: u16,
-    want: Asked<'_>,
-) -> bool {
-    let prec = match prec {
-        Some(name) => Some(name.as_str()),
-        None => None,
-    };
-    (name, first.as_str(), second.as_str(), prec, cores) == want
-}
-
-// Whether the command is that one, with these.
-fn has(command: &Command, want: Asked<'_>) -> bool {
-    match command {
-        Command::Check {
-            jobs,
-            cert,
-            prec,
-            cores,
-        } => are("check", jobs, cert, prec, *cores, want),
-        Command::Replay {
-            jobs,
-            scenario,
-            prec,
-            cores,
-        } => are("replay", jobs, scenario, prec, *cores, want),
-        Command::Report {
-            jobs,
-            cert,
-            prec,
-            cores,
-            ..
-        } => are("report", jobs, cert, prec, *cores, want),
-        _ => false,
-    }
-}
-
-// Whether the words after the command's name ask for these.
-fn asks_for(alloc: Global, rest: &[&str], want: Asked<'_>) -> bool {
-    let Ok(line) = line_of(alloc, want.0, rest) else {
-        return false;
-    };
-    match read_words(alloc, &line) {
-        Ok(command) => has(&command, want),
-        Err(_) => false,
-    }
-}
-
-// Whether the words ask for nothing.
-fn is_refused(alloc: Global, line: &[String]) -> bool {
-    match read_words(alloc, line) {
-        Ok(_) => false,
-        Err(fault) => fault == WordFault::Usage,
-    }
-}
-
 #[test]
-fn takes_places_and_options(rt: HostRuntime) {
-    one_command();
-    let cases: [(&[&str], Asked<'_>); 21] = [
-        (&["J", "S"], ("replay", "J", "S", None, 1)),
-        (&["help", "S"], ("replay", "help", "S", None, 1)),
-        (&[" J", "S\t"], ("replay", " J", "S\t", None, 1)),
-        // Two files of one name, and the empty word and `-` as names.
-        (
-            &["J", "J", "--prec", "J"],
-            ("replay", "J", "J", Some("J"), 1),
-        ),
-        (&["", "-", "--prec="], ("replay", "", "-", Some(""), 1)),
-        (&["-", "", "--prec", ""], ("replay", "-", "", Some(""), 1)),
-        (
-            &["J", "S", "--prec", "-"],
-            ("replay", "J", "S", Some("-"), 1),
-        ),
-        // Options stand before, between and after the places.
-        (
-            &["--prec", "P", "J", "S"],
-            ("replay", "J", "S", Some("P"), 1),
-        ),
-        (&["J", "--cores", "2", "S"], ("replay", "J", "S", None, 2)),
-        (&["J", "S", "--cores", "2"], ("replay", "J", "S", None, 2)),
-        (
-            &["J", "--cores=7", "S", "--prec", "P"],
-            ("replay", "J", "S", Some("P"), 7),
-        ),
-        (
-            &["J", "S", "--prec=a=b"],
-            ("replay", "J", "S", Some("a=b"), 1),
-        ),
-        (
-            &["J", "S", "--prec=-x"],
-            ("replay", "J", "S", Some("-x"), 1),
-        ),
-        (
-            &["J", "S", "--prec=--"],
-            ("replay", "J", "S", Some("--"), 1),
-        ),
-        // After `--` each word is for a place.
-        (
-            &["--", "--cores", "-x"],
-            ("replay", "--cores", "-x", None, 1),
-        ),
-        (&["J", "--", "--"], ("replay", "J", "--", None, 1)),
-        (&["J", "--", "S"], ("replay", "J", "S", None, 1)),
-        (
-            &["--cores", "2", "--", "J", "--help"],
-            ("replay", "J", "--help", None, 2),
-        ),
-        (
-            &["J", "C", "--prec=P", "--cores=007"],
-            ("check", "J", "C", Some("P"), 7),
-        ),
-        (&["--", "C", "J"], ("check", "C", "J", None, 1)),
-        (&["J", "--cores=2", "C"], ("report", "J", "C", None, 2)),
+fn refuses_words(rt: HostRuntime) -> Result<(), AllocError> {
+    let cases: [Case<'_>; 45] = [
+        ("sag|replay", "usage"),
+        ("sag|replay|J", "usage"),
+        ("sag|replay|J|S|X", "usage"),
+        // There is no help and no version, and an option's name is whole and exact.
+        ("sag|replay|J|S|--help", "usage"),
+        ("sag|replay|J|S|-h", "usage"),
+        ("sag|replay|J|S|--version", "usage"),
+        ("sag|replay|J|S|-V", "usage"),
+        ("sag|replay|J|S|--core|2", "usage"),
+        ("sag|replay|J|S|--Cores|2", "usage"),
+        ("sag|replay|J|S|-cores|2", "usage"),
+        ("sag|replay|J|S|---cores|2", "usage"),
+        ("sag|replay|J|S|--cores |2", "usage"),
+        ("sag|replay|J|S|--=2", "usage"),
+        ("sag|replay|J|S|--JOBS=x", "usage"),
+        // A word that begins with `-` is no name and no value.
+        ("sag|replay|-1|S", "usage"),
+        ("sag|replay|J|-S", "usage"),
+        ("sag|replay|J|S|--prec|-x", "usage"),
+        ("sag|replay|J|S|--prec|--", "usage"),
+        ("sag|replay|J|S|--prec|--cores|2", "usage"),
+        ("sag|replay|J|S|--cores|-1", "usage"),
+        ("sag|replay|J|--prec|--|S", "usage"),
+        // An option has a value, and comes once.
+        ("sag|replay|J|S|--prec", "usage"),
+        ("sag|replay|J|S|--cores", "usage"),
+        ("sag|replay|J|S|--cores|2|--cores|2", "usage"),
+        ("sag|replay|J|S|--prec|P|--prec=P", "usage"),
+        ("sag|replay|J|S|--|--cores|2", "usage"),
+        // Numbers.
+        ("sag|replay|J|S|--cores|0", "usage"),
+        ("sag|replay|J|S|--cores|257", "usage"),
+        ("sag|replay|J|S|--cores|65537", "usage"),
+        ("sag|replay|J|S|--cores|18446744073709551617", "usage"),
+        ("sag|replay|J|S|--cores|", "usage"),
+        ("sag|replay|J|S|--cores=", "usage"),
+        ("sag|replay|J|S|--cores|-", "usage"),
+        ("sag|replay|J|S|--cores|+1", "usage"),
+        ("sag|replay|J|S|--cores=-1", "usage"),
+        ("sag|replay|J|S|--cores| 7", "usage"),
+        ("sag|replay|J|S|--cores|7 ", "usage"),
+        ("sag|replay|J|S|--cores|7x", "usage"),
+        ("sag|replay|J|S|--cores|1.0", "usage"),
+        // Names of commands.
+        ("sag", "usage"),
+        ("replay|J|S", "usage"),
+        ("sag|replays|J|S", "usage"),
+        ("sag|Replay|J|S", "usage"),
+        ("sag| replay|J|S", "usage"),
+        ("sag|--cores|2|replay|J|S", "usage"),
     ];
-    for (rest, want) in cases {
-        assert!(rt; asks_for(rt.alloc(), rest, want), "{rest:?}");
-    }
+    assert_eq!(rt; first_wrong(rt.alloc(), &cases)?, None);
+    Ok(())
 }
 
 #[test]
-fn takes_numbers(rt: HostRuntime) {
-    for (number, cores) in [
-        ("1", 1),
-        ("256", 256),
-        ("007", 7),
-        ("00000000000000000000256", 256),
-    ] {
-        let rest = ["J", "S", "--cores", number];
-        let want = ("replay", "J", "S", None, cores);
-        assert!(rt; asks_for(rt.alloc(), &rest, want), "{number}");
-    }
+fn reads_files_and_options(rt: HostRuntime) -> Result<(), AllocError> {
+    let cases: [Case<'_>; 37] = [
+        ("sag|check|J|C|--prec=P|--cores=007", "check [J] [C] [P] 7"),
+        ("sag|check|--|C|J", "check [C] [J] - 1"),
+        ("sag|report|J|--cores=2|C", "report [J] [C] - 2 false"),
+        ("sag|report|J|C", "report [J] [C] - 1 false"),
+        ("sag|report|--tasks|J|C", "report [J] [C] - 1 true"),
+        (
+            "sag|report|J|--tasks|C|--cores=2",
+            "report [J] [C] - 2 true",
+        ),
+        ("sag|report|J|C|--tasks|--tasks", "usage"),
+        ("sag|report|J|C|--tasks=x", "usage"),
+        ("sag|report|J|C|--task", "usage"),
+        ("sag|convert|C", "convert [C]"),
+        ("sag|convert|C|--cores=1", "usage"),
+        ("sag|analyse|J", "analyse [J] - 1 100000"),
+        ("sag|analyse|--budget=1|J|--prec|P", "analyse [J] [P] 1 1"),
+        (
+            "sag|analyse|J|--budget|001000000|--cores|256",
+            "analyse [J] - 256 1000000",
+        ),
+        ("sag|analyse|J|--budget|0", "usage"),
+        ("sag|analyse|J|--budget|1000001", "usage"),
+        ("sag|analyse|J|--budget|4294967297", "usage"),
+        ("sag|analyse|J|--budget|", "usage"),
+        ("sag|analyse|J|--budget|+1", "usage"),
+        ("sag|audit|J|S|R", "audit [J] [S] [R] - 1"),
+        (
+            "sag|audit|J|S|--prec=P|R|--cores|2",
+            "audit [J] [S] [R] [P] 2",
+        ),
+        ("sag|audit|J|S", "usage"),
+        ("sag|audit|J|S|R|X", "usage"),
+        ("sag|audit|J|S|R|--cores=0", "usage"),
+        ("sag|audit|J|S|R|--budget=1", "usage"),
+        ("sag|whatif|J|E", "whatif [J] [E] - 1 100000"),
+        (
+            "sag|whatif|--budget=7|J|--prec|P|E|--cores=2",
+            "whatif [J] [E] [P] 2 7",
+        ),
+        ("sag|whatif|--|E|--trial", "whatif [E] [--trial] - 1 100000"),
+        ("sag|whatif|J", "usage"),
+        ("sag|whatif|J|E|X", "usage"),
+        ("sag|whatif|J|E|--budget=1|--budget=1", "usage"),
+        ("sag|whatif|J|E|--cores=2|--cores|2", "usage"),
+        ("sag|whatif|J|E|--prec=P|--prec=P", "usage"),
+        ("sag|whatif|J|E|--budget=0", "usage"),
+        ("sag|whatif|J|E|--cores=257", "usage"),
+        ("sag|whatif|J|E|--trial=0", "usage"),
+        ("sag|what-if|J|E", "usage"),
+    ];
+    assert_eq!(rt; first_wrong(rt.alloc(), &cases)?, None);
+    Ok(())
+}
+
+#[test]
+fn reads_numbers_ends_and_policies(rt: HostRuntime) -> Result<(), AllocError> {
+    let cases: [Case<'_>; 31] = [
+        ("sag|attain|J|1|02|best", "attain [J] 1 2 best 100000"),
+        (
+            "sag|attain|--budget=7|J|18446744073709551615|0|worst",
+            "attain [J] 18446744073709551615 0 worst 7",
+        ),
+        ("sag|attain|--|--|1|2|best", "attain [--] 1 2 best 100000"),
+        ("sag|attain|J|1|1", "usage"),
+        ("sag|attain|J|1|1|middle", "usage"),
+        ("sag|attain|J|1|1|Best", "usage"),
+        ("sag|attain|J|1|1|worst ", "usage"),
+        ("sag|attain|J|1|1|", "usage"),
+        ("sag|attain|J|1|+1|best", "usage"),
+        ("sag|attain|J| 1|1|best", "usage"),
+        ("sag|attain|J|18446744073709551616|1|best", "usage"),
+        ("sag|attain|J|1|1|best|--budget=0", "usage"),
+        ("sag|attain|J|1|1|best|--cores=1", "usage"),
+        ("sag|attain|J|1|1|best|--prec=P", "usage"),
+        ("sag|selftest|0", "selftest 0 1"),
+        ("sag|selftest|--cores=256|007", "selftest 7 256"),
+        ("sag|selftest", "usage"),
+        ("sag|selftest|7x", "usage"),
+        ("sag|selftest|+7", "usage"),
+        ("sag|selftest|7|--cores=257", "usage"),
+        ("sag|selftest|7|--budget=7", "usage"),
+        ("sag|unroll|T|01|rate", "unroll [T] 1 rate"),
+        ("sag|unroll|T|100|deadline", "unroll [T] 100 deadline"),
+        (
+            "sag|unroll|T|281474976710655|edf",
+            "unroll [T] 281474976710655 edf",
+        ),
+        ("sag|unroll|T|100", "usage"),
+        ("sag|unroll|T|0|rate", "usage"),
+        ("sag|unroll|T|281474976710656|rate", "usage"),
+        ("sag|unroll|T|+1|rate", "usage"),
+        ("sag|unroll|T|1|EDF", "usage"),
+        ("sag|unroll|T|1|rate|X", "usage"),
+        ("sag|unroll|T|1|rate|--cores=1", "usage"),
+    ];
+    assert_eq!(rt; first_wrong(rt.alloc(), &cases)?, None);
+    Ok(())
+}
+
+#[test]
+fn reads_trials(rt: HostRuntime) -> Result<(), AllocError> {
+    let cases: [Case<'_>; 18] = [
+        ("sag|gap|J", "gap [J] - 1 100000 -"),
+        ("sag|gap|--trial|0|J", "gap [J] - 1 100000 0"),
+        (
+            "sag|gap|J|--trial=0004294967295|--prec=P|--cores=2|--budget=9",
+            "gap [J] [P] 2 9 4294967295",
+        ),
+        ("sag|gap", "usage"),
+        ("sag|gap|J|X", "usage"),
+        ("sag|gap|J|--trial", "usage"),
+        ("sag|gap|J|--trial=", "usage"),
+        ("sag|gap|J|--trial|4294967296", "usage"),
+        ("sag|gap|J|--trial|18446744073709551616", "usage"),
+        ("sag|gap|J|--trial|+1", "usage"),
+        ("sag|gap|J|--trial=-1", "usage"),
+        ("sag|gap|J|--trial=1|--trial=1", "usage"),
+        ("sag|gap|J|--prec=P|--prec=P", "usage"),
+        ("sag|gap|J|--cores=2|--cores=2", "usage"),
+        ("sag|gap|J|--budget=1|--budget=1", "usage"),
+        ("sag|gap|J|--budget=1000001", "usage"),
+        ("sag|gap|J|--cores=0", "usage"),
+        ("sag|gap|J|--trials=1", "usage"),
+    ];
+    assert_eq!(rt; first_wrong(rt.alloc(), &cases)?, None);
+    Ok(())
 }
 
 // So many zeros and a five.
@@ -171,186 +281,17 @@ fn zeros_and_five(alloc: Global, count: u32) -> Result<String, AllocError> {
 }
 
 #[test]
-fn takes_many_zeros(rt: HostRuntime) {
-    let Ok(number) = zeros_and_five(rt.alloc(), 100_000) else {
-        panic!(rt; "there is memory");
-    };
-    let rest = ["J", "S", "--cores", number.as_str()];
-    assert!(rt; asks_for(rt.alloc(), &rest, ("replay", "J", "S", None, 5)));
-}
-
-// Whether the words after `report` ask for a report of tasks, or of jobs, if they ask for any.
-fn is_of_tasks(alloc: Global, rest: &[&str]) -> Option<bool> {
-    let line = line_of(alloc, "report", rest).ok()?;
-    match read_words(alloc, &line) {
-        Ok(Command::Report { tasks, .. }) => Some(tasks),
-        _ => None,
-    }
-}
-
-// Whether the words after `convert` ask for a conversion of `C`.
-fn asks_to_convert(alloc: Global, rest: &[&str]) -> bool {
-    let Ok(line) = line_of(alloc, "convert", rest) else {
-        return false;
-    };
-    match read_words(alloc, &line) {
-        Ok(Command::Convert { cert }) => cert.as_str() == "C",
-        _ => false,
-    }
-}
-
-#[test]
-fn takes_a_flag_and_a_single_name(rt: HostRuntime) {
-    let cases: [(&[&str], Option<bool>); 6] = [
-        (&["J", "C"], Some(false)),
-        (&["--tasks", "J", "C"], Some(true)),
-        (&["J", "--tasks", "C", "--cores=2"], Some(true)),
-        (&["J", "C", "--tasks", "--tasks"], None),
-        (&["J", "C", "--tasks=x"], None),
-        (&["J", "C", "--task"], None),
-    ];
-    for (rest, tasks) in cases {
-        assert_eq!(rt; is_of_tasks(rt.alloc(), rest), tasks, "{rest:?}");
-    }
-    assert!(rt; asks_to_convert(rt.alloc(), &["C"]));
-    assert!(rt; !asks_to_convert(rt.alloc(), &["C", "--cores=1"]));
-}
-
-// Whether the words after `replay` ask for nothing.
-fn refuses(alloc: Global, rest: &[&str]) -> bool {
-    match line_of(alloc, "replay", rest) {
-        Ok(line) => is_refused(alloc, &line),
-        Err(_) => false,
-    }
-}
-
-#[test]
-fn refuses_words(rt: HostRuntime) {
-    let cases: [&[&str]; 39] = [
-        &[],
-        &["J"],
-        &["J", "S", "X"],
-        // There is no help and no version, and an option's name is whole and exact.
-        &["J", "S", "--help"],
-        &["J", "S", "-h"],
-        &["J", "S", "--version"],
-        &["J", "S", "-V"],
-        &["J", "S", "--core", "2"],
-        &["J", "S", "--Cores", "2"],
-        &["J", "S", "-cores", "2"],
-        &["J", "S", "---cores", "2"],
-        &["J", "S", "--cores ", "2"],
-        &["J", "S", "--=2"],
-        &["J", "S", "--JOBS=x"],
-        // A word that begins with `-` is no name and no value.
-        &["-1", "S"],
-        &["J", "-S"],
-        &["J", "S", "--prec", "-x"],
-        &["J", "S", "--prec", "--"],
-        &["J", "S", "--prec", "--cores", "2"],
-        &["J", "S", "--cores", "-1"],
-        &["J", "--prec", "--", "S"],
-        // An option has a value, and comes once.
-        &["J", "S", "--prec"],
-        &["J", "S", "--cores"],
-        &["J", "S", "--cores", "2", "--cores", "2"],
-        &["J", "S", "--prec", "P", "--prec=P"],
-        &["J", "S", "--", "--cores", "2"],
-        // Numbers.
-        &["J", "S", "--cores", "0"],
-        &["J", "S", "--cores", "257"],
-        &["J", "S", "--cores", "65537"],
-        &["J", "S", "--cores", "18446744073709551617"],
-        &["J", "S", "--cores", ""],
-        &["J", "S", "--cores="],
-        &["J", "S", "--cores", "-"],
-        &["J", "S", "--cores", "+1"],
-        &["J", "S", "--cores=-1"],
-        &["J", "S", "--cores", " 7"],
-        &["J", "S", "--cores", "7 "],
-        &["J", "S", "--cores", "7x"],
-        &["J", "S", "--cores", "1.0"],
-    ];
-    for rest in cases {
-        assert!(rt; refuses(rt.alloc(), rest), "{rest:?}");
-    }
-}
-
-// Whether the words of a whole command line ask for nothing.
-fn refuses_line(alloc: Global, words: &[&str]) -> bool {
-    let mut line = Vec::new(alloc);
-    put(alloc, &mut line, words).is_ok() && is_refused(alloc, &line)
-}
-
-#[test]
-fn refuses_other_commands(rt: HostRuntime) {
-    let cases: [&[&str]; 7] = [
-        &[],
-        &["sag"],
-        &["replay", "J", "S"],
-        &["sag", "replays", "J", "S"],
-        &["sag", "Replay", "J", "S"],
-        &["sag", " replay", "J", "S"],
-        &["sag", "--cores", "2", "replay", "J", "S"],
-    ];
-    for words in cases {
-        assert!(rt; refuses_line(rt.alloc(), words), "{words:?}");
-    }
-}
-
-// Whether the command is an analysis of this job file, with this precedence file, number of cores and budget.
-fn is_analysis(command: &Command, want: (&str, Option<&str>, u16, u32)) -> bool {
-    match command {
-        Command::Analyse {
-            jobs,
-            prec,
-            cores,
-            budget,
-        } => {
-            let prec = match prec {
-                Some(name) => Some(name.as_str()),
-                None => None,
-            };
-            (jobs.as_str(), prec, *cores, *budget) == want
-        }
-        _ => false,
-    }
-}
-
-// Whether the words after `analyse` ask for these.
-fn asks_to_analyse(alloc: Global, rest: &[&str], want: (&str, Option<&str>, u16, u32)) -> bool {
-    let Ok(line) = line_of(alloc, "analyse", rest) else {
-        return false;
-    };
-    match read_words(alloc, &line) {
-        Ok(command) => is_analysis(&command, want),
-        Err(_) => false,
-    }
-}
-
-// Whether the words after `analyse` ask for nothing.
-fn refuses_to_analyse(alloc: Global, rest: &[&str]) -> bool {
-    match line_of(alloc, "analyse", rest) {
-        Ok(line) => is_refused(alloc, &line),
-        Err(_) => false,
-    }
-}
-
-#[test]
-fn takes_an_analysis(rt: HostRuntime) {
-    let cases: [(&[&str], (&str, Option<&str>, u16, u32)); 3] = [
-        (&["J"], ("J", None, 1, DEFAULT_BUDGET)),
-        (&["--budget=1", "J", "--prec", "P"], ("J", Some("P"), 1, 1)),
-        (
-            &["J", "--budget", "001000000", "--cores", "256"],
-            ("J", None, 256, 1_000_000),
-        ),
-    ];
-    for (rest, want) in cases {
-        assert!(rt; asks_to_analyse(rt.alloc(), rest, want), "{rest:?}");
-    }
-    for budget in ["0", "1000001", "4294967297", "", "+1"] {
-        let rest = ["J", "--budget", budget];
-        assert!(rt; refuses_to_analyse(rt.alloc(), &rest), "{budget}");
-    }
+fn takes_many_zeros_and_no_words(rt: HostRuntime) -> Result<(), AllocError> {
+    let alloc = rt.alloc();
+    let number = zeros_and_five(alloc, 100_000)?;
+    let line = format!(in alloc; "sag|replay|J|S|--cores|{number}")?;
+    assert!(rt;
+        asks(
+            alloc,
+            &words_of(alloc, line.as_str())?,
+            "replay [J] [S] - 5"
+        )?
+    );
+    assert!(rt; asks(alloc, &[], "usage")?);
+    Ok(())
 }

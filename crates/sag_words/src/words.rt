@@ -9,10 +9,12 @@ use crate::attain::read_attain;
 use crate::audit::read_audit;
 use crate::check::read_check;
 use crate::convert::read_convert;
+use crate::gap::read_gap;
 use crate::replay::read_replay;
 use crate::report::read_report;
 use crate::selftest::read_selftest;
 use crate::unroll::read_unroll;
+use crate::what_if::read_what_if;
 use crate::{Command, WordFault};
 use std::alloc::Global;
 
@@ -32,6 +34,8 @@ fn read_named(alloc: Global, name: &str, rest: &[String]) -> Result<Command, Wor
         "convert" => read_convert(alloc, rest),
         "audit" => read_audit(alloc, rest),
         "unroll" => read_unroll(alloc, rest),
+        "whatif" => read_what_if(alloc, rest),
+        "gap" => read_gap(alloc, rest),
         _ => Err(WordFault::Usage),
     }
 }

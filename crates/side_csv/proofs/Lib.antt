@@ -1,5 +1,7 @@
 mod OnePrecedenceFault
+mod OneEditFault
 mod OneRowFault
+mod EditLemmas
 mod PrecedenceLemmas
 mod RowLemmas
 mod ItemLemmas

@@ -8,15 +8,21 @@
 --     OneRecordedRun         the bytes of a file of a run fix the run
 --     OneRunFault            it has one first broken rule at most
 --     RunsKeepRules          a file that gives a run breaks none
+--     OneListOfEdits         the bytes of a file of edits fix them
+--     OneEditFault           it has one first broken rule at most
+--     EditsKeepRules         a file that gives edits breaks none
 use Rattle.std.specs.Prelude.{◌≡◌, ◌≢◌, ℕ, List}
 use Rattle.job_model.specs.Table.{IsTable, Table}
 use Rattle.run_meaning.specs.declared.places.Place.{Place}
+use Rattle.side_csv.specs.EditFaults.{FirstEditFault}
+use Rattle.side_csv.specs.EditsText.{EditsText}
 use Rattle.side_csv.specs.PrecedenceFaults.{FirstPrecedenceFault}
 use Rattle.side_csv.specs.PrecedenceText.{PrecedenceText}
 use Rattle.side_csv.specs.RunFaults.{FirstRunFault}
 use Rattle.side_csv.specs.RunText.{RunText}
 use Rattle.side_csv.specs.ScenarioFaults.{FirstScenarioFault}
 use Rattle.side_csv.specs.ScenarioText.{ScenarioText}
+use Rattle.side_csv.specs.declared.edits.JobEdit.{JobEdit}
 use Rattle.side_csv.specs.declared.fault.SideFault.{SideFault}
 use Rattle.side_csv.specs.declared.fault.SideFault.TheVariants as fault
 
@@ -69,3 +75,19 @@ abbrev pub RunsKeepRules : Type 0
 RunsKeepRules =
     (table : Table) (scenario : List (ℕ × ℕ)) (bytes : List ℕ) (schedule : List Place) → IsTable table → RunText table scenario bytes schedule →
     (e : SideFault) → e ≢ fault.Memory → ¬ FirstRunFault table scenario bytes e
+
+-- The bytes of a file of edits fix them.
+abbrev pub OneListOfEdits : Type 0
+OneListOfEdits = (table : Table) (bytes : List ℕ) (one other : List JobEdit) → IsTable table → EditsText table bytes one → EditsText table bytes other → one ≡ other
+
+-- A file of edits has at most one first broken rule, beside want of memory.
+abbrev pub OneEditFault : Type 0
+OneEditFault =
+    (table : Table) (bytes : List ℕ) (one other : SideFault) → one ≢ fault.Memory → other ≢ fault.Memory →
+    FirstEditFault table bytes one → FirstEditFault table bytes other → one ≡ other
+
+-- A file that gives edits breaks no rule.
+abbrev pub EditsKeepRules : Type 0
+EditsKeepRules =
+    (table : Table) (bytes : List ℕ) (edits : List JobEdit) → EditsText table bytes edits →
+    (e : SideFault) → e ≢ fault.Memory → ¬ FirstEditFault table bytes e

@@ -8,4 +8,6 @@ pub mod RunFaults
 pub mod Places
 pub mod PrecedenceText
 pub mod PrecedenceFaults
+pub mod EditsText
+pub mod EditFaults
 pub mod Laws

@@ -1,5 +1,6 @@
 //! Laws of the files beside the job file.
 
+ghost use Rattle.side_csv.specs.Laws.{EditsKeepRules, OneEditFault, OneListOfEdits};
 ghost use Rattle.side_csv.specs.Laws.{OnePrecedence, OnePrecedenceFault, PrecedenceKeepsRules};
 ghost use Rattle.side_csv.specs.Laws.{OneScenario, OneScenarioFault, ScenariosKeepRules};
 ghost use Rattle.side_csv.specs.Laws.{OneRecordedRun, OneRunFault, RunsKeepRules};
@@ -73,6 +74,30 @@ pub fn one_run_fault()
 /// A file that gives a run breaks no rule.
 pub fn runs_keep_rules()
     ensures { RunsKeepRules }
+{
+    rows_agree();
+    rows_keep_rules();
+}
+
+/// The bytes of a file of edits fix them.
+pub fn one_list_of_edits()
+    ensures { OneListOfEdits }
+{
+    rows_agree();
+}
+
+/// A file of edits has at most one first broken rule, beside want of memory.
+pub fn one_edit_fault()
+    ensures { OneEditFault }
+{
+    rows_agree();
+    rows_keep_rules();
+    one_first_fault();
+}
+
+/// A file that gives edits breaks no rule.
+pub fn edits_keep_rules()
+    ensures { EditsKeepRules }
 {
     rows_agree();
     rows_keep_rules();

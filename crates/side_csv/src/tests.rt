@@ -1,4 +1,7 @@
-use crate::{SideFault, read_edges, read_run, read_scenario, write_scenario};
+use crate::{
+    JobEdit, SideFault, edits_keep_rules, one_edit_fault, one_list_of_edits, read_edges,
+    read_edits, read_run, read_scenario, write_scenario,
+};
 use csv_numbers::CsvFault;
 use job_model::{Job, JobNo, JobTable};
 use run_meaning::Place;
@@ -228,4 +231,67 @@ fn judges_the_jobs_of_runs(rt: HostRuntime) {
     assert!(rt; refuses_run(alloc, b"h\n9,1,3,5,0\n", SideFault::Unknown(1, 1)));
     assert!(rt; refuses_run(alloc, b"h\n1,1,3,5,0\n1,1,9,9,9\n", SideFault::Twice(2, 1)));
     assert!(rt; refuses_run(alloc, b"h\n1,1,3,5,0\n", SideFault::Missing(JobNo(1))));
+}
+
+// The edits that this text gives the two jobs, or why it gives none.
+fn edits_of(alloc: Global, text: &[u8]) -> Result<Vec<JobEdit>, SideFault> {
+    let Ok(table) = two_jobs(alloc) else {
+        return Err(SideFault::Memory);
+    };
+    read_edits(alloc, text, &table)
+}
+
+// Whether it gives these.
+fn gives_edits(alloc: Global, text: &[u8], want: &[JobEdit]) -> bool {
+    match edits_of(alloc, text) {
+        Ok(edits) => edits.as_slice() == want,
+        Err(_) => false,
+    }
+}
+
+// Whether that is why it gives none.
+fn refuses_these(alloc: Global, text: &[u8], fault: SideFault) -> bool {
+    edits_of(alloc, text).err() == Some(fault)
+}
+
+// The edit of the job of that number.
+fn edit(job: u16, cmin: u64, cmax: u64, deadline: u64) -> JobEdit {
+    JobEdit {
+        job: JobNo(job),
+        cmin,
+        cmax,
+        deadline,
+    }
+}
+
+#[test]
+fn reads_edits_by_row(rt: HostRuntime) {
+    one_list_of_edits();
+    one_edit_fault();
+    edits_keep_rules();
+    let most = 70_368_744_177_663;
+    let edits = [edit(1, 1, 2, u64::MAX), edit(1, most, most, 0)];
+    let text = b"h\n2,1,1,2,18446744073709551615\n2,1,70368744177663,70368744177663,0\n";
+    assert!(rt; gives_edits(rt.alloc(), text, &edits));
+    assert!(rt; gives_edits(rt.alloc(), b"h\n", &[]));
+}
+
+#[test]
+fn judges_edits(rt: HostRuntime) {
+    let csv = SideFault::Csv(CsvFault::Width(1, 4));
+    assert!(rt; refuses_these(rt.alloc(), b"h\n9,1,1,1\n", csv));
+    assert!(rt; refuses_these(rt.alloc(), b"h\n1,2,0,0,0\n", SideFault::Unknown(1, 1)));
+    let cases: [(&[u8], u64, u8); 5] = [
+        (b"h\n1,1,0,1,5\n", 1, 3),
+        (b"h\n1,1,1,1,5\n2,1,3,2,5\n", 2, 3),
+        (b"h\n1,1,70368744177665,70368744177664,5\n", 1, 3),
+        (b"h\n1,1,70368744177664,70368744177664,5\n", 1, 4),
+        (b"h\n1,1,1,70368744177664,5\n2,1,0,1,5\n", 1, 4),
+    ];
+    for (text, row, column) in cases {
+        assert!(rt;
+            refuses_these(rt.alloc(), text, SideFault::Outside(row, column)),
+            "{text:?}"
+        );
+    }
 }

@@ -43,4 +43,10 @@ returns c = law.one_answer (record {
     runs_keep_rules = c.runs_keep_rules.ensures;
     one_first_break = c.one_first_break.ensures;
   };
+  edits = record {
+    one_list_of_edits = c.one_list_of_edits.ensures;
+    one_edit_fault = c.one_edit_fault.ensures;
+    edits_keep_rules = c.edits_keep_rules.ensures;
+  };
+  one_gap = c.one_gap.ensures;
 })

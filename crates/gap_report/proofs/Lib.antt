@@ -1,0 +1,3 @@
+mod TrialsFit
+mod KeptEnds
+mod WorkedTrials

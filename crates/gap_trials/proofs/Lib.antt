@@ -1,0 +1,6 @@
+mod ListFacts
+mod FittingTrials
+mod HeldSpans
+mod OneRow
+mod InnerSpans
+mod TakenTrials

@@ -1,0 +1,4 @@
+pub mod Trials
+pub mod Steps
+pub mod GapMeaning
+pub mod Laws

@@ -1,0 +1,51 @@
+//! The words of `whatif`.
+
+ghost use Rattle.std.specs.Prelude.{◌≡◌, IfErr, IfOk, codes, map, string_bytes};
+ghost use Rattle.sag_words.specs.Words.{Asks};
+ghost use Rattle.sag_words.specs.declared.command.Command.{Command};
+
+use crate::names::name_of;
+use crate::numbers::{budget_of, cores_of};
+use crate::parse::{Argument, matched};
+use crate::{Command, WordFault};
+use sag_edge::FileName;
+use std::alloc::Global;
+
+/// `whatif JOBS EDITS [--prec FILE] [--cores N] [--budget N]`
+pub(crate) fn read_what_if(alloc: Global, words: &[String]) -> Result<Command, WordFault>
+    ensures read { IfOk result (Asks (codes "whatif") (map string_bytes words.now)) }
+    ensures usage { IfErr result (λ fault. fault ≡ WordFault.Usage →
+        (command : Command) → Asks (codes "whatif") (map string_bytes words.now) command → ⊥) }
+{
+    let matches = matched(
+        alloc,
+        "whatif",
+        &[
+            Argument::Place("JOBS"),
+            Argument::Place("EDITS"),
+            Argument::Named("prec"),
+            Argument::Named("cores"),
+            Argument::Named("budget"),
+        ],
+        words,
+    )?;
+    let Some(jobs) = matches.get_str("JOBS") else {
+        return Err(WordFault::Usage);
+    };
+    let Some(edits) = matches.get_str("EDITS") else {
+        return Err(WordFault::Usage);
+    };
+    let Some(cores) = cores_of(matches.get_str("cores")) else {
+        return Err(WordFault::Usage);
+    };
+    let Some(budget) = budget_of(matches.get_str("budget")) else {
+        return Err(WordFault::Usage);
+    };
+    Ok(Command::WhatIf {
+        jobs: FileName::from_text(alloc, jobs)?,
+        edits: FileName::from_text(alloc, edits)?,
+        prec: name_of(alloc, matches.get_str("prec"))?,
+        cores,
+        budget,
+    })
+}

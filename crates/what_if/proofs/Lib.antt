@@ -1,0 +1,4 @@
+mod TimesUndone
+mod EditedTables
+mod Walks
+mod EditLemmas

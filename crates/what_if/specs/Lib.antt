@@ -1,0 +1,4 @@
+pub mod Edits
+pub mod Bounded
+pub mod Faults
+pub mod Laws
