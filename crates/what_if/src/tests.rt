@@ -66,7 +66,9 @@ fn edited_by(
     rows: &[u8],
 ) -> Option<Result<(u16, u32, [u64; 3]), WhatIfFault>> {
     let table = three(alloc)?;
-    let edits = read_edits(alloc, rows, &table).ok()?;
+    let Ok(edits) = read_edits(alloc, rows, &table) else {
+        return None;
+    };
     if budget < 1 || MOST_BUDGET < budget {
         return None;
     }

@@ -1,0 +1,15 @@
+mod Grouping
+mod Windows
+mod Reworks
+mod Levels
+mod LevelOffers
+mod StayingStates
+mod StayingEdges
+mod OrderedStates
+mod RemadeLevels
+mod CountedRework
+mod CountedSteps
+mod StartLevels
+mod EdgeTotals
+mod TimesEdits
+mod WorkedReworks
