@@ -12,6 +12,6 @@ pub mod Tables
 pub mod UrgencyLaws
 pub mod RankLaws
 pub mod RankLemmas
-mod Retimed
+pub mod Retimed
 mod WorkedEdges
 mod WorkedUrgency

@@ -4,7 +4,7 @@ use Rattle.std.proofs.lemmas.Bool.{and_parts}
 use Rattle.sag_time.specs.Interval.{touches}
 use Rattle.sag_step.specs.Shape.{Shaped}
 use Rattle.sag_step.specs.Widen.{core_intervals, same_set, states_touch}
-use Rattle.sag_step.proofs.tests.beside.Goals as goal
+use Rattle.sag_step.proofs.tests.merging.beside.Goals as goal
 
 pub returns : goal.returns
 returns c =

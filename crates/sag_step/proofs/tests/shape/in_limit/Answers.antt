@@ -4,7 +4,7 @@ use Rattle.std.specs.Prelude.{nat_le}
 use Rattle.std.proofs.lemmas.Iterator.{YieldsList-from_slice}
 use Rattle.std.proofs.lemmas.Iterator.Search.{all_from_yields_List}
 use Rattle.sag_step.specs.declared.TheConstants.{MOST_TIME}
-use Rattle.sag_step.proofs.tests.in_limit.Goals as goal
+use Rattle.sag_step.proofs.tests.shape.in_limit.Goals as goal
 
 pub returns : goal.returns
 returns c =

@@ -5,7 +5,7 @@ use Rattle.std.proofs.lemmas.Iterator.{YieldsList-from_slice, YieldsList-from_zi
 use Rattle.std.proofs.lemmas.Iterator.Search.{all_from_yields_List}
 use Rattle.sag_time.proofs.ZippedLists.{pointwise-from_zip}
 use Rattle.sag_step.proofs.Touching.{begins_near}
-use Rattle.sag_step.proofs.state.begins_near.Goals as goal
+use Rattle.sag_step.proofs.state.merging.begins_near.Goals as goal
 
 pub returns : goal.returns
 returns c =
