@@ -61,7 +61,8 @@ impl<'a> CertCheck<'a> {
         })
     }
 
-    /// What the bytes come to: a text fault, or a readable certificate, which is valid or breaks a clause.
+    /// What the bytes come to: a text fault, or a readable certificate, which is valid or breaks a clause. Where a piece was not
+    /// taken for want of memory, it says nothing of the bytes.
     pub fn finish(self) -> Result<CertEnd, FeedFault>
         ensures { (table : Table) (m : ℕ) (bytes : List ℕ)
             → TakesBytes (fresh_check table m) bytes self.entry → EndsBytes table m bytes result }

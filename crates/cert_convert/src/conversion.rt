@@ -53,7 +53,8 @@ impl Conversion {
         }
     }
 
-    /// The text of the certificate in the new version, or the place of a text fault.
+    /// The text of the certificate in the new version, or the place of a text fault. Where a piece was not taken for want of
+    /// memory, it says nothing of the bytes.
     pub fn finish(self) -> Result<Vec<u8>, FeedFault>
         ensures { (bytes : List ℕ)
             → ConvertsBytes fresh_conversion bytes self → EndsConversion bytes result }

@@ -22,7 +22,7 @@ pub trait TakeLine {
     /// From the first value it came to the second by taking these lines.
     ghost takes: { Self → List Line → Self → Type 0 };
 
-    /// Takes the next line.
+    /// Takes the next line. Where there is no memory, the value is of no more use.
     fn take_line(&mut self, line: CertLine) -> Result<(), AllocError>
         requires fits { FitsLine grammar line }
         requires few { count self.old < 2 ^ 63 }
@@ -66,7 +66,8 @@ fn feed_line<T: TakeLine>(
 }
 
 /// Takes a piece of a certificate, and hands on each line that comes whole in it. Behind a text fault it takes the bytes,
-/// and hands on none; the reader tells the fault in the end.
+/// and hands on none; the reader tells the fault in the end. Where there is no memory, a line may have left the reader and not
+/// have come to the taker: both are of no more use.
 pub fn feed_lines<T: TakeLine>(
     reader: &mut CertReader,
     taker: &mut T,

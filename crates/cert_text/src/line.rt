@@ -52,7 +52,7 @@ impl Pairs {
         }
     }
 
-    /// Appends a pair.
+    /// Appends a pair. Where there is no memory, nothing changes.
     pub fn push(&mut self, item: Pair) -> Result<(), AllocError>
         ensures ok { OnOk result (self.new ≡ self.old ++ item ∷ []) }
         ensures err { OnErr result (self.new ≡ self.old) }
@@ -94,7 +94,7 @@ impl EndList {
         }
     }
 
-    /// Appends an end.
+    /// Appends an end. Where there is no memory, nothing changes.
     pub fn push(&mut self, item: EndOf) -> Result<(), AllocError>
         ensures ok { OnOk result (self.new ≡ self.old ++ item ∷ []) }
         ensures err { OnErr result (self.new ≡ self.old) }
@@ -135,7 +135,7 @@ impl Numbers {
         }
     }
 
-    /// Appends a number.
+    /// Appends a number. Where there is no memory, nothing changes.
     pub fn push(&mut self, item: u64) -> Result<(), AllocError>
         ensures ok { OnOk result (self.new ≡ self.old ++ item ∷ []) }
         ensures err { OnErr result (self.new ≡ self.old) }

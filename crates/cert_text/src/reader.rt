@@ -122,7 +122,7 @@ impl CertReader {
     }
 
     /// Takes a piece through its first LF, or whole where it has none, and gives the number of bytes taken: 0 while a line
-    /// waits.
+    /// waits. A fault, also want of memory, is kept, and told each time from then on.
     pub fn feed(&mut self, piece: &[u8]) -> Result<usize, FeedFault>
         requires few_lines { count_of_lines self.old.held < 2 ^ 63 }
         ensures kept { IfFault self.old.held (λ fault. (result ≡ Err fault) × (self.new ≡ self.old)) }

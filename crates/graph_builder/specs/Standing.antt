@@ -59,8 +59,8 @@ pub record IsStanding (s : Standing) : Type 0 where
   pub few_edges : s.edge_total ≤ 16 * s.budget
   pub within : (k : ℕ) → k < s.level → find (exceeds s.budget) (spendings_at s.table s.cores k) ≡ None
 
--- An offer that leads to the next level is the first of all that is over the budget, and the fault tells the totals
--- with it, if it tells any.
+-- An offer that leads to the next level is the first of all that is over the budget, and the fault tells the level and the totals
+-- with it. Want of memory may come at any level.
 abbrev pub IsSpentAfter : Standing → LevelFault → Type 0
 IsSpentAfter s (fault.Spent k states edges) =
     (k ≡ s.level + 1) × (spent s.table s.cores s.budget ≡ Some (record { level = k; states = states; edges = edges }))

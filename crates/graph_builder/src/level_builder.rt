@@ -182,7 +182,7 @@ impl<'a> LevelBuilder<'a> {
         (self.state_total, self.edge_total)
     }
 
-    /// Appends the line that stands before the levels.
+    /// Appends the line that stands before the levels, or nothing where there is no memory.
     pub fn write_head(&self, into: &mut Vec<u8>) -> Result<(), AllocError>
         ensures ok { OnOk result (into.new.items ≡ into.old.items
             ++ flat_map (line_text second_version) (head_lines self.now.table self.now.cores)) }
@@ -192,7 +192,7 @@ impl<'a> LevelBuilder<'a> {
         writing::write_head(self.table, self.cores, into)
     }
 
-    /// Appends the lines of the level at which it stands.
+    /// Appends the lines of the level at which it stands, or nothing where there is no memory.
     pub fn write_level(&self, into: &mut Vec<u8>) -> Result<(), AllocError>
         ensures ok { OnOk result (into.new.items ≡ into.old.items
             ++ flat_map (line_text second_version)
@@ -203,7 +203,7 @@ impl<'a> LevelBuilder<'a> {
         writing::write_level(self.alloc, self.level, &self.states, &self.edges, into)
     }
 
-    /// Appends the lines that stand after the last level.
+    /// Appends the lines that stand after the last level, or nothing where there is no memory.
     pub fn write_tail(&self, into: &mut Vec<u8>) -> Result<(), AllocError>
         requires { self.now.level ≡ length self.now.table.jobs }
         ensures ok { OnOk result (into.new.items ≡ into.old.items

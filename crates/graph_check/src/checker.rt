@@ -76,7 +76,7 @@ impl<'a> Checker<'a> {
     }
 
     /// Takes a line. Where there is memory, what is kept is that of the lines with this one; a failure is kept, and its
-    /// clause and line are the answer from then on.
+    /// clause and line are the answer from then on, and so is want of memory.
     pub fn step(&mut self, line: CertLine) -> Result<(), CheckAnswer>
         requires fits { FitsLine second_version line }
         requires few_lines { IfProgress self.old.kept (λ progress. progress.lines < 2 ^ 63) }

@@ -28,7 +28,8 @@ fn can_run_as(job: &Job, release: u64, cost: u64) -> bool
 }
 
 impl Scenario {
-    /// The scenario of these releases and costs by job number, if each is in its job's intervals.
+    /// The scenario of these releases and costs by job number, if each is in its job's intervals; else they
+    /// are dropped.
     pub fn new(table: &JobTable, rows: Vec<(u64, u64)>) -> Option<Scenario>
         ensures rows { IfSome result (λ s. s ≡ rows.items) }
         ensures fits { IsSome result ↔ Fits table.now rows.items }

@@ -118,7 +118,7 @@ fn may_cost(cmin: u64, cmax: u64) -> bool
 }
 
 impl JobTable {
-    /// The table of these rows, without precedence edges. Rows and columns are counted from 1.
+    /// The table of these rows, without precedence edges. Rows and columns are counted from 1. A refusal drops the rows.
     pub fn from_rows(alloc: Global, rows: Vec<Job>) -> Result<JobTable, TableFault>
         ensures rows { IfOk result (λ t. t ≡ table_of rows.items) }
         ensures table { OnOk result (IsTable (table_of rows.items)) }

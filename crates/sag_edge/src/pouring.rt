@@ -18,7 +18,7 @@ pub trait TakePiece {
     /// From the first value it came to the second by taking these bytes.
     ghost takes: { Self → List ℕ → Self → Type 0 };
 
-    /// Takes the next bytes.
+    /// Takes the next bytes. Where there is no memory, the value is of no more use.
     fn take_piece(&mut self, piece: &[u8]) -> Result<(), AllocError>
         requires few { count self.old + length piece.now < 2 ^ 62 }
         ensures count { OnOk result (count self.new ≤ count self.old + length piece.now) }
@@ -63,7 +63,8 @@ fn pour_piece<F: Files, T: TakePiece>(
 /// Reads the whole of a file, of at most `limit` bytes, and hands on its pieces as they come.
 ///
 /// It reads to the end of the file, or to one byte above the limit, whatever the taker makes of the bytes; only its want of
-/// memory stops the reading. So a read fault and a file that is too long are told before anything that the bytes say.
+/// memory stops the reading. So a read fault and a file that is too long are told before anything that the bytes say. The source
+/// stays where the reading stopped; of a taker whose bytes did not all come nothing is said.
 pub fn pour<F: Files, T: TakePiece>(
     alloc: Global,
     files: &mut F,

@@ -32,7 +32,7 @@ pub trait Files {
 
     /// Puts the next bytes of the current file at the front of `into`, and gives how many: fewer than it has
     /// room for at any place in the file, and 0 (into a piece with room) at the end of the file alone. After
-    /// `Failed` no file is current.
+    /// `Failed` no file is current, and the piece may hold anything.
     fn read(&mut self, into: &mut [u8]) -> Result<usize, Failed>
         requires { IsSome (seen self.old).current }
         ensures contents { (seen self.new).contents ≡ (seen self.old).contents }

@@ -62,7 +62,7 @@ impl Avail {
         Ok(Avail { times })
     }
 
-    /// The list, if it is sorted.
+    /// The list, if it is sorted; else it is dropped.
     pub fn from_list(list: Vec<u64>) -> Option<Avail>
         requires { length list.items < 2 ^ 16 }
         ensures list { IfSome result (λ a. a ≡ list.items) }

@@ -29,7 +29,7 @@ fn jobs_of(alloc: Global, rows: &[[u64; 8]]) -> Result<Vec<Job>, AllocError>
 }
 
 /// The table of these rows, as a job file has them, with an edge for each pair of the numbers of two jobs:
-/// (predecessor, successor).
+/// (predecessor, successor). It is for tests: no clause says when it refuses.
 pub fn build_table(
     alloc: Global,
     rows: &[[u64; 8]],

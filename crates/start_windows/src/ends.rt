@@ -110,7 +110,8 @@ impl Ends {
         self.items[usize::from(place)]
     }
 
-    /// Appends the item if its job is above all in the list, and tells whether it is.
+    /// Appends the item if its job is above all in the list, and tells whether it is. Where it is not, or there is no memory,
+    /// nothing changes.
     pub fn push(&mut self, job: JobNo, span: Span) -> Result<bool, AllocError>
         requires { length self.old.items < 65535 }
         ensures above { IfOk result (λ is_last. is_last ≡ is_above job self.old.items) }

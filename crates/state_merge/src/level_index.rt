@@ -85,7 +85,7 @@ impl LevelIndex {
         }
     }
 
-    /// No states. What it appends it makes of these, as long as there are any.
+    /// No states. What it appends it makes of these, as long as there are any. Want of memory drops them.
     pub fn over(alloc: Global, pool: Vec<State>) -> Result<LevelIndex, AllocError>
         ensures { IfOk result (λ x. x ≡ []) }
     {
@@ -201,7 +201,8 @@ impl LevelIndex {
     }
 
     /// Places the offer: the first state that touches it absorbs it, and where there is none it is
-    /// appended. Tells the number of the state that took it, and whether it was appended.
+    /// appended. Tells the number of the state that took it, and whether it was appended. Where there is no memory, nothing
+    /// changes.
     pub fn place(&mut self, offer: &State) -> Result<(StateNo, bool), AllocError>
         requires comparable { AreComparableTo self.old offer.now.state }
         requires few { length self.old < 2 ^ 32 - 1 }

@@ -14,7 +14,7 @@ use sag_time::Avail;
 use start_windows::Ends;
 
 impl State {
-    /// The state of these parts, if it is one of the table on so many cores.
+    /// The state of these parts, if it is one of the table on so many cores; else they are dropped.
     pub fn from_parts(
         table: &JobTable,
         cores: u16,
@@ -49,7 +49,7 @@ impl State {
     }
 
     /// The state of these parts, if it is one of the table on so many cores, where its set is that of
-    /// this one, which is a state, with the job.
+    /// this one, which is a state, with the job; else they are dropped.
     pub fn child_from_parts(
         &self,
         table: &JobTable,
