@@ -10,8 +10,6 @@ mod cert_end;
 mod checking;
 mod laws;
 mod line_checker;
-#[cfg(test)]
-mod tests;
 
 pub use answer_texts::{no_text, yes_text};
 pub use cert_end::CertEnd;

@@ -7,8 +7,6 @@
 mod conversion;
 mod converted_lines;
 mod laws;
-#[cfg(test)]
-mod tests;
 
 pub use conversion::Conversion;
 pub use laws::{converted_is_readable, one_conversion};

@@ -5,7 +5,5 @@
 #![tactic(auto)]
 
 mod feeding;
-#[cfg(test)]
-mod tests;
 
 pub use feeding::{TakeLine, close_lines, feed_lines};

@@ -12,8 +12,6 @@ mod machine;
 mod reader;
 mod separators;
 mod spot;
-#[cfg(test)]
-mod tests;
 mod whole_lines;
 mod words;
 mod write;

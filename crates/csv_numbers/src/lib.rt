@@ -6,8 +6,6 @@ mod field;
 mod laws;
 mod read;
 mod rows;
-#[cfg(test)]
-mod tests;
 mod write;
 
 pub use fault::CsvFault;

@@ -5,8 +5,6 @@ mod gap;
 mod gap_row;
 mod inner_ends;
 mod laws;
-#[cfg(test)]
-mod tests;
 mod trials;
 
 pub use gap::Gap;

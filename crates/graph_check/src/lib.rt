@@ -23,8 +23,6 @@ mod level_state;
 mod line_states;
 mod offer_walk;
 mod progress;
-#[cfg(test)]
-mod tests;
 mod turn;
 
 pub use answer::{CheckAnswer, Yes};

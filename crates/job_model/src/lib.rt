@@ -3,8 +3,6 @@
 
 mod cycles;
 mod edge_rows;
-#[cfg(test)]
-mod edge_tests;
 mod edges;
 mod fault;
 mod fault_laws;
@@ -17,8 +15,6 @@ mod ranks;
 mod release_order;
 mod scenario;
 mod table;
-#[cfg(test)]
-mod tests;
 mod walk_back;
 
 pub use fault::{EdgeFault, TableFault};

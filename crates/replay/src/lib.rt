@@ -5,8 +5,6 @@ mod cores;
 mod dispatch;
 mod queues;
 mod schedule;
-#[cfg(test)]
-mod tests;
 
 pub use dispatch::replay;
 pub use run_turns::runs_exist;

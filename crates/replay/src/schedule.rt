@@ -72,6 +72,3 @@ pub fn write_schedule(
         &rows,
     )
 }
-
-#[cfg(test)]
-mod tests;

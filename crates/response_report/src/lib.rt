@@ -5,8 +5,6 @@ mod job_report;
 mod laws;
 mod report_row;
 mod task_report;
-#[cfg(test)]
-mod tests;
 
 pub use job_report::{rows, write_report};
 pub use laws::responses_within_wcrt;

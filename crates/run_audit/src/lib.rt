@@ -10,8 +10,6 @@ mod laws;
 mod orders;
 mod starts;
 mod sweep;
-#[cfg(test)]
-mod tests;
 mod waits;
 
 pub use answer_texts::broken_text;

@@ -12,4 +12,3 @@ mod WindowHolds
 mod WiderCovers
 mod StepCovers
 mod RootCovers
-mod Rows

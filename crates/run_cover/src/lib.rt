@@ -5,8 +5,6 @@ mod core_times;
 mod dispatched;
 mod first_jobs;
 mod laws;
-#[cfg(test)]
-mod tests;
 
 pub use first_jobs::replayed;
 pub use laws::{root_covers, steps_cover, wider_states_cover};

@@ -4,8 +4,6 @@
 mod laws;
 mod order;
 mod places;
-#[cfg(test)]
-mod tests;
 
 pub use laws::{one_run, predecessors_come_earlier, runs_end, starts_agree};
 pub use order::dispatch_order;

@@ -7,8 +7,6 @@ mod names;
 mod pouring;
 mod reading;
 mod sure;
-#[cfg(test)]
-mod tests;
 mod writing;
 
 pub use machine::{RealFiles, StdSink};

@@ -5,7 +5,6 @@ pub mod TrackedEnds
 pub mod NextStates
 pub mod ShapeTest
 mod RootState
-mod Walks
 mod SomeNext
 pub mod ListsOfEnds
 mod Successors

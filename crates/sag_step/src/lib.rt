@@ -5,8 +5,6 @@ mod ends;
 mod laws;
 mod state;
 mod steps;
-#[cfg(test)]
-mod tests;
 mod tracking;
 
 pub use laws::{

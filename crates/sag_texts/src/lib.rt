@@ -5,8 +5,6 @@ mod fault;
 mod fault_lines;
 mod piece;
 mod refusal;
-#[cfg(test)]
-mod tests;
 mod usage;
 
 pub use fault::{Fault, FileKind};

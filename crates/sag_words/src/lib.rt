@@ -6,8 +6,6 @@ mod attain;
 mod audit;
 mod check;
 mod command;
-#[cfg(test)]
-mod command_told;
 mod convert;
 mod ends;
 mod fault;
@@ -21,8 +19,6 @@ mod policies;
 mod replay;
 mod report;
 mod selftest;
-#[cfg(test)]
-mod tests;
 mod unroll;
 mod what_if;
 mod words;

@@ -9,8 +9,6 @@ mod precedence;
 mod row_per_job;
 mod run;
 mod scenario;
-#[cfg(test)]
-mod tests;
 mod write;
 
 pub use edits::{JobEdit, read_edits};

@@ -5,8 +5,6 @@ mod eligibility;
 mod ends;
 mod front;
 mod laws;
-#[cfg(test)]
-mod tests;
 mod windows;
 
 pub use eligibility::{Prospect, eligible};

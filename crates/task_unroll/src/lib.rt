@@ -8,8 +8,6 @@ mod laws;
 mod limits;
 mod read;
 mod task;
-#[cfg(test)]
-mod tests;
 
 pub use csv_numbers::CsvFault;
 pub use fault::TaskFault;

@@ -3,8 +3,6 @@
 
 mod job_words;
 mod limits;
-#[cfg(test)]
-mod tests;
 mod workload;
 
 pub use limits::MOST_WORKLOAD_JOBS;

@@ -1,9 +1,0 @@
-use Rattle.std.proofs.Common.{◌≡◌}
-use Rattle.gap_report.proofs.tests.rows_of.Given as goal
-
--- the trials so far were taken
-abbrev pub invariant-loop-k : goal.invariant-loop-k
-invariant-loop-k l = record {
-  table : l.gap.table ≡ l.table;
-  taken : l.gap.taken ≡ l.k;
-}

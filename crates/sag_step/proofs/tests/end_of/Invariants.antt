@@ -1,4 +1,0 @@
-use Rattle.sag_step.proofs.tests.end_of.Given as goal
-
-abbrev pub ghosts-walk : goal.ghosts-walk
-ghosts-walk a = record { name = a.blank.name; parts = a.blank.parts }

@@ -1,5 +1,0 @@
-use Rattle.sag_step.specs.Shape.{Shaped}
-use Rattle.sag_step.proofs.tests.merging.end_beside_all.Given as goal
-
-abbrev pub invariant-loop-other : goal.invariant-loop-other
-invariant-loop-other l = Shaped l.table 1 l.one.state

@@ -1,0 +1,9 @@
+use Rattle.std.proofs.Common.{rules, ◌≡◌, ◌∙◌, [], ◌∷◌}
+use Rattle.run_meaning.proofs.Rows.{place}
+use Rattle.state_calls.proofs.OneCoreRun.{one_core_legal}
+use Rattle.state_calls.proofs.run_cover_calls.on_one_core.Goals as goal
+
+pub returns-clause-legal : goal.returns-clause-legal
+returns-clause-legal c =
+    let places : c.in_ok-places.places.items ≡ place 0 0 ∷ place 4 0 ∷ place 5 0 ∷ [] = search rules in
+    rw (c.in_ok-run.ensures.table, c.in_ok-run.ensures.scenario, c.in_ok-run.ensures.schedule ∙ places) one_core_legal
