@@ -1,6 +1,8 @@
 -- States that some steps from the root lead to.
-use Rattle.std.proofs.Common.{◌≡◌, ℕ, ◌+◌, ◌*◌, ◌<◌, ◌≤◌, length, Option, refl, ap, sym, subst, ◌∙◌, arith}
-use Rattle.std.specs.Prelude.{Some}
+use Rattle.std.proofs.Common.{◌≡◌, ℕ, zero, suc, true, ◌+◌, ◌*◌, ◌<◌, ◌≤◌, length, replicate, Option, refl, ap, sym, subst, ◌∙◌, arith}
+use Rattle.std.specs.Prelude.{Some, nat_le}
+use Rattle.std.specs.List.{list_all}
+use Rattle.std.proofs.lemmas.Bool.{and_from, le-leb}
 use Rattle.job_sets.specs.Subset.{Subset}
 use Rattle.job_model.specs.declared.limits.TheConstants.{MOST_ARRIVAL, MOST_COST}
 use Rattle.job_model.specs.Table.{Table, IsTable}
@@ -13,16 +15,20 @@ use Rattle.sag_step.specs.State.{SystemState, HeldState, root, first_core, state
 use Rattle.sag_step.specs.Shape.{IsState, IsUpTo, Shaped}
 use Rattle.sag_step.specs.Next.{next}
 use Rattle.sag_step.proofs.NextStates.{IsUpTo-weaker, next_is_state, next_is_up_to}
-use Rattle.sag_step.proofs.RootState.{root_is_shaped, zeros-up_to}
+use Rattle.sag_step.specs.Laws.{RootIsShaped}
 
 -- what k steps from the root keep
 pub record IsReached (table : Table) (m k : ℕ) (state : SystemState) : Type 0 where
   pub is_state : IsState table m state
   pub within : IsUpTo (MOST_ARRIVAL + k * MOST_COST) state
 
+zeros-up_to : (limit m : ℕ) → list_all (λ t. nat_le t limit) (replicate m 0) ≡ true
+zeros-up_to limit zero = refl
+zeros-up_to limit (suc m) = and_from (nat_le 0 limit) (list_all (λ t. nat_le t limit) (replicate m 0)) (le-leb 0 limit (omega arith)) (zeros-up_to limit m)
+
 module _ (table : Table) (m : ℕ) where
-  pub IsReached-root : (held : HeldState) (room : ℕ) → held ≡ record { state = root table m; room = room } → 0 < m → IsReached table m 0 held.state
-  IsReached-root held room is some = subst (λ (h : HeldState). IsReached table m 0 h.state) (sym is) (record {
+  pub IsReached-root : RootIsShaped → (held : HeldState) (room : ℕ) → held ≡ record { state = root table m; room = room } → 0 < m → IsReached table m 0 held.state
+  IsReached-root root_is_shaped held room is some = subst (λ (h : HeldState). IsReached table m 0 h.state) (sym is) (record {
     is_state = (root_is_shaped table m some).is_state;
     within = record { low = zeros-up_to MOST_ARRIVAL m; high = zeros-up_to MOST_ARRIVAL m; ends = refl };
   })
