@@ -106,8 +106,11 @@ module _ (law : RanksOrderJobs) (table : Table) (is_table : IsTable table) (ends
   range_of_candidates set (x ∷ xs) = by_test (is_candidate table set x) refl (range_of_candidates set xs)
     where
       by_test : (t : Bool) → is_candidate table set x ≡ t → AllByRecursion (λ y. y < length table.jobs) (filter (is_candidate table set) xs) → AllByRecursion (λ y. y < length table.jobs) (cond t (x ∷ filter (is_candidate table set) xs) (filter (is_candidate table set) xs))
-      by_test true e all = (ltb-true x (length table.jobs) (and_parts (ltb x (length table.jobs)) (not (is_member x set))
-          (and_parts (ltb x (length table.jobs) && not (is_member x set)) (list_all (λ i. is_member i set) (predecessors table x)) e).0).0, all)
+      by_test true e all = (
+        ltb-true x (length table.jobs) (and_parts (ltb x (length table.jobs)) (not (is_member x set))
+            (and_parts (ltb x (length table.jobs) && not (is_member x set)) (list_all (λ i. is_member i set) (predecessors table x)) e).0).0,
+        all,
+      )
       by_test false e all = all
 
   sure_among : (sure : Option ℕ) (among kept : List ℕ) → IfSome sure (IsSure table ends first among kept) → IfSome sure (IsSure table ends first among among)
