@@ -10,7 +10,7 @@ use Rattle.sag_time.specs.Interval.{Interval}
 use Rattle.start_windows.specs.Window.{is_candidate, candidates, latest_ready, certain_start}
 use Rattle.job_model.specs.Releases.{IsReleaseOrder, release_order}
 use Rattle.start_windows.specs.Eligible.{IsFront}
-use Rattle.start_windows.specs.Prospects.{Collected, IsShuffle, is_near, times_in}
+use Rattle.start_windows.specs.Prospects.{Collected, HoldNear, IsShuffle, IsSure, is_near, is_within, times_in}
 use Rattle.job_sets.specs.Subset.{is_member}
 use Rattle.std.specs.Prelude.{take, drop, not}
 use Rattle.std.proofs.lemmas.List.{get_or-take, get_or-drop, length-take, length-drop, take_more, map-append, take-append-drop}
@@ -19,43 +19,56 @@ use Rattle.std.proofs.lemmas.Bool.{and_left, and_right}
 use Rattle.start_windows.proofs.Shuffles.{IsShuffle-filter, IsShuffle-from_permutation, hits, least-shuffle, times_in-range}
 use Rattle.start_windows.proofs.Collecting.{Collected-far, Collected-other}
 
-module _ (table : Table) (set : List ℕ) (ends : List (ℕ × Interval)) (first : Interval) where
+module _ (table : Table) (set : List ℕ) (ends : List (ℕ × Interval)) (first : Interval) (sure : Option ℕ) where
   -- STOP: where all that follow are released after the least Rmax so far and after CA_1
-  pub Collected-stop : IsTable table → (seen vs : List ℕ) (r : ℕ) (rest : List ℕ) → Collected table set ends first seen vs (Some r) →
-      AllByRecursion (λ x. max first.hi r < (job_at table x).rmin) rest → Collected table set ends first (seen ++ rest) vs (Some r)
-  Collected-stop t seen vs r [] c all = subst (λ s. Collected table set ends first s vs (Some r)) (sym (append-nil seen)) c
+  pub Collected-stop : IsTable table → (seen vs : List ℕ) (r : ℕ) (rest : List ℕ) → Collected table set ends first sure seen vs (Some r) →
+      AllByRecursion (λ x. max first.hi r < (job_at table x).rmin) rest → Collected table set ends first sure (seen ++ rest) vs (Some r)
+  Collected-stop t seen vs r [] c all = subst (λ s. Collected table set ends first sure s vs (Some r)) (sym (append-nil seen)) c
   Collected-stop t seen vs r (x ∷ rest) c all =
-      subst (λ s. Collected table set ends first s vs (Some r)) (append_assoc seen (x ∷ []) rest)
-      (Collected-stop t (seen ++ x ∷ []) vs r rest (Collected-far table set ends first t seen vs r x c all.0) all.1)
+      subst (λ s. Collected table set ends first sure s vs (Some r)) (append_assoc seen (x ∷ []) rest)
+      (Collected-stop t (seen ++ x ∷ []) vs r rest (Collected-far table set ends first sure t seen vs r x c all.0) all.1)
 
   -- START: where all in front are no candidates, as they are dispatched
-  pub Collected-start : (seen vs : List ℕ) (low : Option ℕ) (front : List ℕ) → Collected table set ends first seen vs low →
-      AllByRecursion (λ x. is_candidate table set x ≡ false) front → Collected table set ends first (seen ++ front) vs low
-  Collected-start seen vs low [] c all = subst (λ s. Collected table set ends first s vs low) (sym (append-nil seen)) c
+  pub Collected-start : (seen vs : List ℕ) (low : Option ℕ) (front : List ℕ) → Collected table set ends first sure seen vs low →
+      AllByRecursion (λ x. is_candidate table set x ≡ false) front → Collected table set ends first sure (seen ++ front) vs low
+  Collected-start seen vs low [] c all = subst (λ s. Collected table set ends first sure s vs low) (sym (append-nil seen)) c
   Collected-start seen vs low (x ∷ front) c all =
-      subst (λ s. Collected table set ends first s vs low) (append_assoc seen (x ∷ []) front)
-      (Collected-start (seen ++ x ∷ []) vs low front (Collected-other table set ends first seen vs low x c all.0) all.1)
+      subst (λ s. Collected table set ends first sure s vs low) (append_assoc seen (x ∷ []) front)
+      (Collected-start (seen ++ x ∷ []) vs low front (Collected-other table set ends first sure seen vs low x c all.0) all.1)
 
   -- ORDER: after a walk over the jobs in any order, and a sort of what it collected
-  pub certain-walked : (order kept : List ℕ) (ready : Option ℕ) → IsPermutation (numbers_below (length table.jobs)) order → Collected table set ends first order kept ready →
+  pub certain-walked : (order kept : List ℕ) (ready : Option ℕ) → IsPermutation (numbers_below (length table.jobs)) order → Collected table set ends first sure order kept ready →
       max first.hi (unwrap_or ready 0) ≡ certain_start table set ends first
   certain-walked order kept ready moved c =
       let same = IsShuffle-from_permutation (numbers_below (length table.jobs)) order moved in
       ap (λ o. max first.hi (unwrap_or o 0)) (c.ready_is ∙ sym (least-shuffle (latest_ready table ends) (is_candidate table set) (numbers_below (length table.jobs)) order same))
 
-  pub near-walked : (order kept sorted : List ℕ) (ready : Option ℕ) → IsPermutation (numbers_below (length table.jobs)) order → Collected table set ends first order kept ready →
-      IsPermutation kept sorted → (w : ℕ) → w ≡ max first.hi (unwrap_or ready 0) → IsShuffle (filter (is_near table w) sorted) (filter (is_near table w) (candidates table set))
+  pub near-walked : (order kept sorted : List ℕ) (ready : Option ℕ) → IsPermutation (numbers_below (length table.jobs)) order → Collected table set ends first sure order kept ready →
+      IsPermutation kept sorted → (w : ℕ) → w ≡ max first.hi (unwrap_or ready 0) → HoldNear table set ends first w sorted
   near-walked order kept sorted ready moved c again w e =
       let numbers = numbers_below (length table.jobs) in
-      let here = IsShuffle-filter (is_near table w) kept sorted (IsShuffle-from_permutation kept sorted again) in
-      let there = IsShuffle-filter (is_near table w) _ _ (IsShuffle-filter (is_candidate table set) numbers order (IsShuffle-from_permutation numbers order moved)) in
-      record { sums = λ f. sym (here.sums f) ∙ ap (sum_by f) (c.same_near w (within ready e)) ∙ sym (there.sums f) }
+      let here = IsShuffle-filter (is_near table w) _ _ (IsShuffle-filter (is_within table sure) kept sorted (IsShuffle-from_permutation kept sorted again)) in
+      let there = IsShuffle-filter (is_near table w) _ _ (IsShuffle-filter (is_within table sure) _ _ among) in
+      record { sure = sure; same = record { sums = λ f. sym (here.sums f) ∙ ap (sum_by f) (c.same_near w (within ready e)) ∙ sym (there.sums f) }; cut = by_sure sure c.cut }
     where
       within : (o : Option ℕ) → w ≡ max first.hi (unwrap_or o 0) → IfSome o (λ r. w ≤ max first.hi r)
       within None e = tt
       within (Some r) e = omega arith
 
-  pub once-walked : (order kept sorted : List ℕ) (ready : Option ℕ) → IsPermutation (numbers_below (length table.jobs)) order → Collected table set ends first order kept ready →
+      among : IsShuffle (candidates table set) (filter (is_candidate table set) order)
+      among = IsShuffle-filter (is_candidate table set) (numbers_below (length table.jobs)) order (IsShuffle-from_permutation (numbers_below (length table.jobs)) order moved)
+
+      by_sure : (o : Option ℕ) → IfSome o (IsSure table ends first (filter (is_candidate table set) order) kept) → IfSome o (IsSure table ends first (candidates table set) sorted)
+      by_sure None h = tt
+      by_sure (Some u) h = record {
+        job = h.job;
+        rank_is = h.rank_is;
+        is_among = omega (arith, h.is_among, among.sums (hits h.job));
+        is_kept = omega (arith, h.is_kept, sum_by-IsPermutation (hits h.job) kept sorted again);
+        early = h.early;
+      }
+
+  pub once-walked : (order kept sorted : List ℕ) (ready : Option ℕ) → IsPermutation (numbers_below (length table.jobs)) order → Collected table set ends first sure order kept ready →
       IsPermutation kept sorted → (j : ℕ) → times_in sorted j ≤ 1
   once-walked order kept sorted ready moved c again j =
       omega (arith, sum_by-IsPermutation (hits j) kept sorted again, c.once j, sum_by-IsPermutation (hits j) (numbers_below (length table.jobs)) order moved, times_in-range 0 (length table.jobs) j)
@@ -95,10 +108,10 @@ rest_beyond table order place m is there beyond =
     (omega (arith, (is.own (place + i) (0, 0) short).0, is.rising place (place + i) (0, 0) (omega arith) short, beyond)))))
 
 -- the walk stops at a job that is released too late
-pub walk_stop : (table : Table) (set : List ℕ) (ends : List (ℕ × Interval)) (first : Interval) → IsTable table → (order : List (ℕ × ℕ)) (place : ℕ) (vs : List ℕ) (low : Option ℕ) →
-    IsReleaseOrder table order → place < length order → Collected table set ends first (map (λ e. e.1) (take place order)) vs low →
-    IsSomeAnd low (λ r. max first.hi r < (get_or order place (0, 0)).0) → Collected table set ends first (map (λ e. e.1) order) vs low
-walk_stop table set ends first t order place vs None is there c h = absurd h
-walk_stop table set ends first t order place vs (Some r) is there c h =
-    subst (λ s. Collected table set ends first s vs (Some r)) (order_split order place)
-    (Collected-stop table set ends first t (map (λ e. e.1) (take place order)) vs r (map (λ e. e.1) (drop place order)) c (rest_beyond table order place (max first.hi r) is there h))
+pub walk_stop : (table : Table) (set : List ℕ) (ends : List (ℕ × Interval)) (first : Interval) (sure : Option ℕ) → IsTable table → (order : List (ℕ × ℕ)) (place : ℕ) (vs : List ℕ) (low : Option ℕ) →
+    IsReleaseOrder table order → place < length order → Collected table set ends first sure (map (λ e. e.1) (take place order)) vs low →
+    IsSomeAnd low (λ r. max first.hi r < (get_or order place (0, 0)).0) → Collected table set ends first sure (map (λ e. e.1) order) vs low
+walk_stop table set ends first sure t order place vs None is there c h = absurd h
+walk_stop table set ends first sure t order place vs (Some r) is there c h =
+    subst (λ s. Collected table set ends first sure s vs (Some r)) (order_split order place)
+    (Collected-stop table set ends first sure t (map (λ e. e.1) (take place order)) vs r (map (λ e. e.1) (drop place order)) c (rest_beyond table order place (max first.hi r) is there h))

@@ -11,4 +11,5 @@ mod Rows
 mod Shuffles
 pub mod SomeEligible
 mod Sweep
+mod Within
 pub mod WindowFacts

@@ -17,7 +17,7 @@ use Rattle.start_windows.specs.Window.{is_candidate, candidates, latest_ready, e
 use Rattle.start_windows.specs.Eligible.{eligible_windows, with_window}
 use Rattle.start_windows.specs.Prospects.{IsShuffle, cap_over, capped, is_near, offer_over, window_of, window_over}
 use Rattle.start_windows.proofs.Caps.{capped-kept, capped-le, filter-filter, filter-kept, filter_map-filter, filter_map-same, greatest-filter-le, window-capped, window_of-none}
-use Rattle.start_windows.proofs.Shuffles.{IsShuffle-filter, Rises-by, Rises-filter, Rises-range, capped-shuffle, hits, rises-unique}
+use Rattle.start_windows.proofs.Shuffles.{IsShuffle-filter, Rises, Rises-by, Rises-filter, capped-shuffle, hits, rises-unique}
 use Rattle.start_windows.proofs.SomeEligible.{released}
 
 -- ---- limits of moments
@@ -94,7 +94,7 @@ module _ (table : Table) (ends : List (ℕ × Interval)) (first : Interval) wher
       window_of-none _ _ (omega (arith, leb-false _ _ far, capped-le (suc certain) (map (ready_beside table ends j) (filter (λ x. has_urgency_over table x j) xs))))
 
   -- all windows, over the candidates
-  eligible-candidates : (set : List ℕ) → eligible_windows table set ends first ≡ filter_map (offer_over table ends first (certain_start table set ends first) (candidates table set)) (candidates table set)
+  pub eligible-candidates : (set : List ℕ) → eligible_windows table set ends first ≡ filter_map (offer_over table ends first (certain_start table set ends first) (candidates table set)) (candidates table set)
   eligible-candidates set =
       filter_map-filter (with_window table set ends first) (offer_over table ends first (certain_start table set ends first) (candidates table set)) (is_candidate table set)
       (λ j h. ap (option_map (λ u. (j, u))) (start_window-candidate set j h)) (λ j h. ap (option_map (λ u. (j, u))) (start_window-other set j h)) (numbers_below (length table.jobs))
@@ -113,12 +113,11 @@ module _ (table : Table) (ends : List (ℕ × Interval)) (first : Interval) wher
       let kept = filter-kept p near (λ x h. ap is_some (window_over-far certain all x h)) in
       ap (sum_by (hits j)) (sym (kept xs)) ∙ (IsShuffle-filter p (filter near xs) (filter near ys) same).sums (hits j) ∙ ap (sum_by (hits j)) (kept ys)
 
-  -- MAIN: the windows of a list with the same near jobs, by rising number
-  pub eligible-sorted : IsTable table → (set found : List ℕ) (w : ℕ) (into : List (ℕ × StartWindow)) → w ≡ certain_start table set ends first →
-      IsShuffle (filter (is_near table w) found) (filter (is_near table w) (candidates table set)) → IsPermutation (filter_map (offer_over table ends first w found) found) into →
+  -- the windows of a list with the same near jobs, by rising number
+  pub eligible-sorted : IsTable table → (set all found : List ℕ) (w : ℕ) (into : List (ℕ × StartWindow)) → Rises all → filter_map (offer_over table ends first w all) all ≡ eligible_windows table set ends first →
+      IsShuffle (filter (is_near table w) found) (filter (is_near table w) all) → IsPermutation (filter_map (offer_over table ends first w found) found) into →
       IsNonDecreasingBy (λ (e : ℕ × StartWindow). e.0) into → into ≡ eligible_windows table set ends first
-  eligible-sorted t set found w into is same moved up =
-      let all = candidates table set in
+  eligible-sorted t set all found w into rises back same moved up =
       let window = window_over table ends first w all in
       let offer = offered window in
       let has = λ (j : ℕ). is_some (window j) in
@@ -128,9 +127,7 @@ module _ (table : Table) (ends : List (ℕ × Interval)) (first : Interval) wher
       let moved' : IsPermutation (filter_map offer found) into = subst (λ (l : List (ℕ × StartWindow)). IsPermutation l into) offers moved in
       let own = recursion_from_All (λ e. offer e.0 ≡ Some e) into (All-permutation (λ e. offer e.0 ≡ Some e) (filter_map offer found) into moved' (All-from_recursion (λ e. offer e.0 ≡ Some e) (filter_map offer found) (offered-own window found))) in
       let jobs : map key into ≡ filter has all =
-      rises-unique (map key into) (filter has all) (Rises-by key into up) (Rises-filter has all (Rises-filter (is_candidate table set) (numbers_below (length table.jobs)) (Rises-range 0 (length table.jobs))))
+      rises-unique (map key into) (filter has all) (Rises-by key into up) (Rises-filter has all rises)
       (λ j. sum_by-IsPermutation (hits j) (map key (filter_map offer found)) (map key into) (IsPermutation-map key (filter_map offer found) into moved')
       ∙ ap (sum_by (hits j)) (offered-jobs window found) ∙ windows-shuffle w all found all same j) in
-      let back : filter_map offer all ≡ eligible_windows table set ends first =
-      subst (λ (u : ℕ). filter_map (offer_over table ends first u all) all ≡ eligible_windows table set ends first) (sym is) (sym (eligible-candidates set)) in
       own_windows window into own ∙ ap (filter_map offer) jobs ∙ sym (offered-has window all) ∙ back

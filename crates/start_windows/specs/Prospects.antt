@@ -11,8 +11,13 @@
 --     cap_behind               the cap of a job behind some that are more urgent
 --     IsShuffle xs ys          the same numbers, as often, in any order
 --     times_in xs j            how often j is in the list
---     Collected                what a walk over some jobs has collected
-use Rattle.std.specs.Prelude.{◌≡◌, ◌≤◌, ◌<◌, ℕ, suc, Bool, List, [], ◌∷◌, ◌-◌, ◌==◌, length, min, max, nat_lt, nat_le, not, map, filter, All, IfSome, IsTrue, Option, Some, None, slice_index_or, if◌then◌else◌}
+--     may_lead sure r          whether a job of the rank r is no less urgent than one of the rank `sure`, if there is one
+--     is_within table sure x   the same of the job x
+--     kept_with, sure_with     a list with one more prospect, and the rank `sure` then
+--     IsSure                   a job of that rank is certainly ready once a core is possibly free
+--     Collected, Walked        what a walk over some jobs has collected
+--     HoldNear                 jobs with all candidates that may be the next to start
+use Rattle.std.specs.Prelude.{◌≡◌, ◌≤◌, ◌<◌, ℕ, suc, Bool, true, List, [], ◌∷◌, ◌++◌, ◌-◌, ◌==◌, length, min, max, nat_lt, nat_le, not, map, filter, All, IfSome, IsTrue, Option, Some, None, slice_index_or, if◌then◌else◌}
 use Rattle.std.specs.List.{count_by, sum_by}
 use Rattle.std.specs.Option.{option_map}
 use Rattle.job_sets.specs.Subset.{is_rising}
@@ -24,7 +29,7 @@ use Rattle.start_windows.specs.declared.StartWindow.{StartWindow}
 use Rattle.start_windows.specs.declared.eligibility.Freed.{Freed}
 use Rattle.start_windows.specs.declared.eligibility.Prospect.{Prospect}
 use Rattle.start_windows.specs.Ends.{high_end, low_end}
-use Rattle.start_windows.specs.Window.{is_candidate, earliest_ready, latest_ready, earliest_start, ready_beside}
+use Rattle.start_windows.specs.Window.{is_candidate, candidates, earliest_ready, latest_ready, earliest_start, ready_beside}
 
 -- the least of c and the numbers
 abbrev pub capped : ℕ → List ℕ → ℕ
@@ -97,9 +102,47 @@ pub record IsShuffle (xs ys : List ℕ) : Type 0 where
 abbrev pub times_in : List ℕ → ℕ → ℕ
 times_in xs j = count_by (λ k. k == j) xs
 
+-- a job of the rank r is no less urgent than one of the rank `sure`, if there is one
+abbrev pub may_lead : Option ℕ → ℕ → Bool
+may_lead None r = true
+may_lead (Some u) r = nat_le r u
+
+-- the same of the job x
+abbrev pub is_within : Table → Option ℕ → ℕ → Bool
+is_within table sure x = may_lead sure (rank_of table x)
+
+-- the list with the prospect, if that may lead
+abbrev pub kept_with : Option ℕ → Prospect → List Prospect → List Prospect
+kept_with sure c found = if may_lead sure c.rank then found ++ c ∷ [] else found
+
+-- the rank of the most urgent one that is certainly ready by then, with the prospect
+abbrev pub sure_with : ℕ → Option ℕ → Prospect → Option ℕ
+sure_with moment sure c = if may_lead sure c.rank then (if nat_le c.latest moment then Some c.rank else sure) else sure
+
+-- A job of the rank u is in both lists, and certainly ready once a core is possibly free.
+pub record IsSure (table : Table) (ends : List (ℕ × Interval)) (first : Interval) (among kept : List ℕ) (u : ℕ) : Type 0 where
+  pub job : ℕ
+  pub rank_is : rank_of table job ≡ u
+  pub is_among : 1 ≤ times_in among job
+  pub is_kept : 1 ≤ times_in kept job
+  pub early : latest_ready table ends job ≤ first.lo
+
 -- Of the jobs seen: the first moment at which a candidate is certainly ready, and the candidates but for some that are
--- released too late to matter.
-pub record Collected (table : Table) (set : List ℕ) (ends : List (ℕ × Interval)) (first : Interval) (seen kept : List ℕ) (ready : Option ℕ) : Type 0 where
+-- released too late to matter, or are less urgent than one that is certainly ready once a core is possibly free.
+pub record Collected (table : Table) (set : List ℕ) (ends : List (ℕ × Interval)) (first : Interval) (sure : Option ℕ) (seen kept : List ℕ) (ready : Option ℕ) : Type 0 where
   pub ready_is : ready ≡ least (map (latest_ready table ends) (filter (is_candidate table set) seen))
-  pub same_near : (w : ℕ) → IfSome ready (λ t. w ≤ max first.hi t) → filter (is_near table w) kept ≡ filter (is_near table w) (filter (is_candidate table set) seen)
+  pub same_near : (w : ℕ) → IfSome ready (λ t. w ≤ max first.hi t) → filter (is_near table w) (filter (is_within table sure) kept) ≡ filter (is_near table w) (filter (is_within table sure) (filter (is_candidate table set) seen))
   pub once : (j : ℕ) → times_in kept j ≤ times_in seen j
+  pub cut : IfSome sure (IsSure table ends first (filter (is_candidate table set) seen) kept)
+
+-- The same for some rank.
+pub record Walked (table : Table) (set : List ℕ) (ends : List (ℕ × Interval)) (first : Interval) (seen kept : List ℕ) (ready : Option ℕ) : Type 0 where
+  pub sure : Option ℕ
+  pub collected : Collected table set ends first sure seen kept ready
+
+-- All candidates that may be released by w are kept, but for those less urgent than one that is certainly ready once a
+-- core is possibly free.
+pub record HoldNear (table : Table) (set : List ℕ) (ends : List (ℕ × Interval)) (first : Interval) (w : ℕ) (kept : List ℕ) : Type 0 where
+  pub sure : Option ℕ
+  pub same : IsShuffle (filter (is_near table w) (filter (is_within table sure) kept)) (filter (is_near table w) (filter (is_within table sure) (candidates table set)))
+  pub cut : IfSome sure (IsSure table ends first (candidates table set) kept)

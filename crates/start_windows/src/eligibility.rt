@@ -1,6 +1,6 @@
 //! Which jobs may be the next to start.
 
-ghost use Rattle.std.specs.Prelude.{◌≡◌, ◌<◌, ◌↔◌, ◌++◌, [], suc, IfOk, IsSomeAnd, IsTrue, OnOk, filter, length, map, max};
+ghost use Rattle.std.specs.Prelude.{◌≡◌, ◌<◌, ◌↔◌, ◌++◌, [], suc, IfOk, IsSomeAnd, IsTrue, OnOk, length, map, max};
 ghost use Rattle.std.specs.Bool.{OnTrue};
 ghost use Rattle.std.specs.List.{cons_option, filter_map};
 ghost use Rattle.std.specs.Option.{option_map};
@@ -9,7 +9,7 @@ ghost use Rattle.job_model.specs.Table.{IsTable};
 ghost use Rattle.start_windows.specs.Window as windows;
 ghost use Rattle.start_windows.specs.Eligible.{IsFront, eligible_windows};
 ghost use Rattle.start_windows.specs.Prospects as prospects;
-ghost use Rattle.start_windows.specs.Prospects.{AreProspects, Collected, IsBehindOne, IsByUrgency, IsShuffle, cap_behind, capped, freed_by, is_near, jobs_of, offer_over, prospect_of, window_of};
+ghost use Rattle.start_windows.specs.Prospects.{AreProspects, HoldNear, IsBehindOne, IsByUrgency, Walked, cap_behind, capped, freed_by, jobs_of, kept_with, offer_over, prospect_of, sure_with, window_of};
 
 use crate::windows::{candidate, lesser, ready_beside, wait_apart};
 use crate::{Ends, StartWindow};
@@ -108,9 +108,41 @@ fn comes_after(ready: Option<u64>, first: u64, release: u64) -> bool
     }
 }
 
+// Whether a job of that rank is no less urgent than one of the rank `sure`, if there is one.
+fn may_lead(sure: Option<u16>, rank: u16) -> bool
+    ensures { result ≡ prospects.may_lead sure rank }
+{
+    match sure {
+        Some(most) => rank <= most,
+        None => true,
+    }
+}
+
+// Appends the item, unless a more urgent one is certainly ready by `moment`: `sure` is the rank of one that is, if one is
+// known, and the result that of the most urgent one with the item.
+fn keep(
+    found: &mut Vec<Prospect>,
+    item: &Prospect,
+    moment: u64,
+    sure: Option<u16>,
+) -> Result<Option<u16>, AllocError>
+    ensures kept { OnOk result (found.new.items ≡ kept_with sure item.now found.old.items) }
+    ensures sure { IfOk result (λ next. next ≡ sure_with moment sure item.now) }
+{
+    if !may_lead(sure, item.rank) {
+        return Ok(sure);
+    }
+    found.push(*item)?;
+    if item.latest <= moment {
+        Ok(Some(item.rank))
+    } else {
+        Ok(sure)
+    }
+}
+
 // Looks up the candidates by rising release, from the front to the first
 // that is released too late to matter, and gives the first moment at which one of them is certainly
-// ready.
+// ready. Keeps those before which none so far is certainly ready once a core is possibly free.
 fn walk(
     table: &JobTable,
     set: &JobSet,
@@ -126,12 +158,13 @@ fn walk(
     requires front { IsFront table.now set.now.members front }
     ensures table { IsTable table.now }
     ensures prospects { OnOk result (AreProspects table.now ends.now.items found.new.items) }
-    ensures collected { IfOk result (λ ready. Collected table.now set.now.members ends.now.items first
+    ensures collected { IfOk result (λ ready. Walked table.now set.now.members ends.now.items first
         (map (λ e. e.1) order.now) (jobs_of found.new.items) ready) }
 {
     found.clear();
     let _count = table.len();
     let mut ready = None;
+    let mut sure = None;
     for place in usize::from(front)..order.len() {
         let entry = order[place];
         if comes_after(ready, first.hi(), entry.0) {
@@ -140,7 +173,7 @@ fn walk(
         if candidate(table, set, entry.1) {
             let item = look_up(table, ends, found, entry.1);
             ready = Some(lesser(ready, item.latest));
-            found.push(item)?;
+            sure = keep(found, &item, first.lo(), sure)?;
         }
     }
     Ok(ready)
@@ -164,8 +197,7 @@ fn collect(
     ensures prospects { OnOk result (AreProspects table.now ends.now.items found.new.items) }
     ensures urgency { OnOk result (IsByUrgency found.new.items) }
     ensures certain { IfOk result (λ w. w ≡ windows.certain_start table.now set.now.members ends.now.items first) }
-    ensures near { IfOk result (λ w. IsShuffle (filter (is_near table.now w) (jobs_of found.new.items))
-        (filter (is_near table.now w) (windows.candidates table.now set.now.members))) }
+    ensures near { IfOk result (λ w. HoldNear table.now set.now.members ends.now.items first w (jobs_of found.new.items)) }
 {
     let ready = walk(table, set, ends, first, order, front, found)?;
     found.sort_unstable_by_key(|item| item.rank);

@@ -25,18 +25,18 @@ returns-clause-urgency c =
     let up = IsNonDecreasingBy-from_sort_by_key (λ (x : Prospect). x.rank) _ c.sort_unstable_by_key.ensures.sorted (λ a r q k. search rules) in
     IsByUrgency-from_sort ranks_order table c.in_ok-ready.ensures.table ends sorted
     (recursion_from_All (Own table ends) sorted (All-permutation (Own table ends) found sorted moved c.in_ok-ready.ensures.prospects)) (Rises-by (λ (x : Prospect). x.rank) sorted up)
-    (once-walked table c.args.set.now.members ends c.args.first (map (λ (e : ℕ × ℕ). e.1) c.args.order.now) (jobs_of found) (jobs_of sorted) c.in_ok-ready.ready c.requires.order.each_job c.in_ok-ready.ensures.collected
+    (once-walked table c.args.set.now.members ends c.args.first c.in_ok-ready.ensures.collected.sure (map (λ (e : ℕ × ℕ). e.1) c.args.order.now) (jobs_of found) (jobs_of sorted) c.in_ok-ready.ready c.requires.order.each_job c.in_ok-ready.ensures.collected.collected
     (IsPermutation-map (λ (x : Prospect). x.job) found sorted moved))
 
 pub returns-clause-certain : goal.returns-clause-certain
 returns-clause-certain c =
     c.max.ensures ∙ ap (λ n. max n c.unwrap_or.result) c.hi.ensures.hi ∙ ap (max c.args.first.hi) c.unwrap_or.ensures
-    ∙ certain-walked c.args.table.now c.args.set.now.members c.args.ends.now.items c.args.first (map (λ (e : ℕ × ℕ). e.1) c.args.order.now) (map (λ (x : Prospect). x.job) c.walk.new.found.items) c.in_ok-ready.ready
-    c.requires.order.each_job c.in_ok-ready.ensures.collected
+    ∙ certain-walked c.args.table.now c.args.set.now.members c.args.ends.now.items c.args.first c.in_ok-ready.ensures.collected.sure (map (λ (e : ℕ × ℕ). e.1) c.args.order.now) (map (λ (x : Prospect). x.job) c.walk.new.found.items) c.in_ok-ready.ready
+    c.requires.order.each_job c.in_ok-ready.ensures.collected.collected
 
 pub returns-clause-near : goal.returns-clause-near
 returns-clause-near c =
     let valued : c.max.result ≡ max c.args.first.hi (unwrap_or c.in_ok-ready.ready 0) = c.max.ensures ∙ ap (λ n. max n c.unwrap_or.result) c.hi.ensures.hi ∙ ap (max c.args.first.hi) c.unwrap_or.ensures in
-    near-walked c.args.table.now c.args.set.now.members c.args.ends.now.items c.args.first (map (λ (e : ℕ × ℕ). e.1) c.args.order.now) (jobs_of c.walk.new.found.items)
-    (jobs_of c.sort_unstable_by_key.new.self.items) c.in_ok-ready.ready c.requires.order.each_job c.in_ok-ready.ensures.collected
+    near-walked c.args.table.now c.args.set.now.members c.args.ends.now.items c.args.first c.in_ok-ready.ensures.collected.sure (map (λ (e : ℕ × ℕ). e.1) c.args.order.now) (jobs_of c.walk.new.found.items)
+    (jobs_of c.sort_unstable_by_key.new.self.items) c.in_ok-ready.ready c.requires.order.each_job c.in_ok-ready.ensures.collected.collected
     (IsPermutation-map (λ (x : Prospect). x.job) c.walk.new.found.items c.sort_unstable_by_key.new.self.items c.sort_unstable_by_key.ensures.permutation) c.max.result valued
