@@ -4,7 +4,7 @@ use Rattle.state_calls.proofs.Walks.{IsReached, IsReached-root, IsReached-next, 
 use Rattle.state_calls.proofs.sag_step_calls.walk.Goals as goal
 
 pub loop-place-init : goal.loop-place-init
-loop-place-init g c = IsReached-root c.root_is_shaped.ensures c.args.table.now c.args.cores c.in_ok-state.state 0 c.in_ok-state.ensures c.requires.cores
+loop-place-init g c = IsReached-root c.args.table.now c.args.cores c.root_is_shaped.ensures c.in_ok-state.state 0 c.in_ok-state.ensures c.requires.cores
 
 pub step_into-requires-clause-state : goal.step_into-requires-clause-state
 step_into-requires-clause-state g c =
@@ -12,7 +12,7 @@ step_into-requires-clause-state g c =
 
 pub step_into-requires-clause-into : goal.step_into-requires-clause-into
 step_into-requires-clause-into g c =
-    let root = IsReached-root c.root_is_shaped.ensures c.args.table.now c.args.cores c.in_ok-next.next (length c.args.table.now.jobs) c.in_ok-next.ensures c.requires.cores in
+    let root = IsReached-root c.args.table.now c.args.cores c.root_is_shaped.ensures c.in_ok-next.next (length c.args.table.now.jobs) c.in_ok-next.ensures c.requires.cores in
     on_its_cores c.args.table.now c.args.cores c.loop-place.place c.loop-place.state.state c.loop-place.invariant c.in_ok-next.next.state root.is_state
 
 pub step_into-requires-clause-in_limit : goal.step_into-requires-clause-in_limit
